@@ -1,0 +1,7 @@
+pub mod Numbers
+pub mod Units
+pub mod Scaling
+pub mod Sums
+pub mod InOrder
+pub mod Floors
+pub mod Sizes

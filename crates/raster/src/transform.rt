@@ -1,0 +1,84 @@
+// Which transforms can use a picture on a page.
+ghost use mathlib.Core.Path.{_≡_};
+ghost use lib.Dec.{T};
+ghost use lib.IntN.{pos};
+ghost use lib.Signed.{ltZ};
+ghost use Rattle.std.specs.Floats.{finite};
+ghost use Rattle.floats.specs.Units.{unitsOf};
+ghost use Rattle.raster.specs.Supported.{straight, unit-sized, linear-finite, outline-ok, bitmap-ok, supported};
+use crate::glyph::Glyph;
+use shapes::Affine;
+
+// 1/4096, and 1 less and more that: each is an f64, so that no comparison with them is rounded.
+const NEARLY_ZERO: f64 = 0.000244140625;
+
+const UNDER_ONE: f64 = 0.999755859375;
+
+const OVER_ONE: f64 = 1.000244140625;
+
+fn is_straight(x: f64) -> bool
+    requires { ⌜ T (finite x) ⌝ }
+    ensures { λ r. ⌜ r ≡ straight (unitsOf x) ⌝ }
+{
+    x.abs() <= NEARLY_ZERO
+}
+
+fn is_unit(x: f64) -> bool
+    requires { ⌜ T (finite x) ⌝ }
+    ensures { λ r. ⌜ r ≡ unit-sized (unitsOf x) ⌝ }
+{
+    let size = x.abs();
+    (UNDER_ONE <= size) & (size <= OVER_ONE)
+}
+
+fn is_positive(x: f64) -> bool
+    requires { ⌜ T (finite x) ⌝ }
+    ensures { λ r. ⌜ r ≡ ltZ (pos 0) (unitsOf x) ⌝ }
+{
+    0.0 < x
+}
+
+fn is_negative(x: f64) -> bool
+    requires { ⌜ T (finite x) ⌝ }
+    ensures { λ r. ⌜ r ≡ ltZ (unitsOf x) (pos 0) ⌝ }
+{
+    x < 0.0
+}
+
+fn is_linear_finite(t: Affine) -> bool
+    ensures { λ r. ⌜ r ≡ linear-finite t ⌝ }
+{
+    t.a.is_finite() & t.b.is_finite() & t.c.is_finite() & t.d.is_finite()
+}
+
+fn supports_outline(t: Affine) -> bool
+    requires { ⌜ T (linear-finite t) ⌝ }
+    ensures { λ r. ⌜ r ≡ outline-ok t ⌝ }
+{
+    is_straight(t.b)
+        & is_straight(t.c)
+        & is_unit(t.a)
+        & is_unit(t.d)
+        & is_positive(t.a)
+        & is_negative(t.d)
+}
+
+fn supports_bitmap(t: Affine) -> bool
+    requires { ⌜ T (linear-finite t) ⌝ }
+    ensures { λ r. ⌜ r ≡ bitmap-ok t ⌝ }
+{
+    is_straight(t.b) & is_straight(t.c) & t.a.is_sign_positive() & t.d.is_sign_positive()
+}
+
+// Whether a glyph under this transform can be copied from a picture on a page.
+pub fn supports_atlas_caching(transform: Affine, glyph: Glyph) -> bool
+    ensures { λ r. ⌜ r ≡ supported glyph transform ⌝ }
+{
+    if !is_linear_finite(transform) {
+        return false;
+    }
+    match glyph {
+        Glyph::Outline(_) => supports_outline(transform),
+        Glyph::Bitmap(_) => supports_bitmap(transform),
+    }
+}

@@ -5,3 +5,4 @@ pub mod Sums
 pub mod InOrder
 pub mod Floors
 pub mod Sizes
+pub mod Negated

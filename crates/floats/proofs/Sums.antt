@@ -26,8 +26,8 @@ sum-same f s t a b c m n d C D p q =
     let like : round f s (a + b) c ≡ round f s (m + n) d = round-same f s (a + b) c (m + n) d C D (omega (arith, add-mul a b d, add-mul m n c)) in
     let less : round f t (b - a) c ≡ round f t (n - m) d = round-same f t (b - a) c (n - m) d C D (sub-scale d c D C b a n m q p) in
     let more : round f (s && ltb b a) (a - b) c ≡ round f (s && ltb n m) (m - n) d =
-        ap (λ (x : Bool). round f (s && x) (a - b) c) (ltb-scale d c D C b a n m q p)
-        ∙ round-same f (s && ltb n m) (a - b) c (m - n) d C D (sub-scale d c D C a b m n p q) in
+    ap (λ (x : Bool). round f (s && x) (a - b) c) (ltb-scale d c D C b a n m q p)
+    ∙ round-same f (s && ltb n m) (a - b) c (m - n) d C D (sub-scale d c D C a b m n p q) in
     opened f s t a b c
     ∙ (λ i. cond (Bool·beq s t) (like i) (cond (ltb-scale d c D C a b m n p q i) (less i) (more i)))
     ∙ sym (opened f s t m n d)

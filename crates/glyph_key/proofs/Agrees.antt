@@ -21,8 +21,9 @@ use lib.Ieee.Back.{round-whole}
 use Rattle.floats.proofs.Sums.{sum-same, sum-less}
 use Rattle.std.specs.Floats.{wholeBy, cut, halfUp, trunc, roundAway, one, zero as nought}
 use Rattle.glyph_key.specs.Steps.{fraction, turned, byIeee, four}
-use Rattle.glyph_key.specs.Bucket.{unitsOf, to24, reduced, quarters, bucketOf, nearOf, Within-an-eighth}
+use Rattle.glyph_key.specs.Bucket.{to24, reduced, quarters, bucketOf, nearOf, Within-an-eighth}
 use lib.Ieee.Positive.{first-pos}
+use Rattle.floats.specs.Units.{unitsIn}
 use Rattle.floats.proofs.Units.{Whole, whole, N, units-is, units-cross, units-value, left-over}
 
 -- ---- the whole part
@@ -59,7 +60,7 @@ taken-off f s m e (fin t n g) w v h =
     ∙ ap (λ (b : Bool). sum f s (a * down g) (not b) (n * up g * d) (d * down g)) (v .0)
     ∙ sum-same f s (not s) (a * down g) (n * up g * d) (d * down g) a (w * d) d (mul-pos (down-pos e) (down-pos g)) (down-pos e)
     (simp (mul-assoc, mul-comm, mul-left-comm))
-    (ap (λ (x : ℕ). x * d * d) (sym (mul-one (n * up g)) ∙ v .1) ∙ simp (mul-assoc, mul-comm, mul-left-comm))
+    (ap (λ (x : ℕ). x * d * d) (sym (mul-one (n * up g)) ∙ v .1) ∙ simp (mul-assoc, mul-comm))
     ∙ unlike-sum f s a (w * d) d h
 
 -- U units are 1
@@ -246,7 +247,7 @@ reduced-neg (suc n) =
       | inr p ↦ rw (ne-eqb (suc n % One) 0 (λ e. omega arith), lt-ltb 0 (suc n % One) p) refl
     ]
 
-reduced-is : (s : Bool) (m : ℕ) (e : ℤ) → R (s && ltb 0 (N binary32 m e % One)) (N binary32 m e % One) ≡ reduced (unitsOf s m e)
+reduced-is : (s : Bool) (m : ℕ) (e : ℤ) → R (s && ltb 0 (N binary32 m e % One)) (N binary32 m e % One) ≡ reduced (unitsIn binary32 (fin s m e))
 unfolding reduced
 reduced-is false m e = refl
 reduced-is true m e = sym (reduced-neg (N binary32 m e))
@@ -268,18 +269,13 @@ near-is (fin s m e) h =
     let fit : T (fits binary32 (turned y)) = cond-fits binary32 (lt y nought) (add binary32 y one) y (add-fits binary32 y one) (sub-fits binary32 (fin s m e) (trunc binary32 (fin s m e))) in
     near-turned (turned y) (R t F) fit (v .0) (v .1) ∙ ap quarters (reduced-is s m e)
 
-bucket-near : (x : Float) → min (nearOf x) 3 ≡ bucketOf x
-unfolding nearOf bucketOf
-bucket-near nan = refl
-bucket-near (inf s) = refl
-bucket-near (fin s m e) = refl
-
 pub agrees : (x : Float) → T (fits binary32 x) → byIeee x ≡ bucketOf x
-agrees x h = ap (λ (n : ℕ). min n 3) (near-is x h) ∙ bucket-near x
+unfolding bucketOf
+agrees x h = ap (λ (n : ℕ). min n 3) (near-is x h)
 
 within : (r : ℕ) → (quarters r * 2 ^ 147 ≤ r + 2 ^ 146) × (r ≤ quarters r * 2 ^ 147 + 2 ^ 146)
 within r = (omega arith, omega arith)
 
 pub within-an-eighth : Within-an-eighth
 unfolding nearOf
-within-an-eighth s m e = within (reduced (unitsOf s m e))
+within-an-eighth x = within (reduced (unitsIn binary32 x))

@@ -1,2 +1,4 @@
 pub mod Agrees
 pub mod Nearer
+pub mod Equality
+pub mod Axes

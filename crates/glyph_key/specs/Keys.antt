@@ -1,5 +1,6 @@
 -- Keys: which there are, when two are the same, and why one is refused. Assumes nothing.
 --     key-of p b vs        the key made of the parts p, the bucket b and the axis values vs, or why there is none
+--     Keyed p b vs r       the same of an answer r, with its number where it is a refusal, and the axis values told by the key where it is not
 --     key-refusal p vs     why there is none, by number, the first reason that there is: 2, 3
 --     key-with p b vs      the key itself
 --     bits-of k            its numbers as f32 bit patterns
@@ -20,6 +21,7 @@ use Rattle.std.specs.declared.option.Option.{Option}
 use Rattle.std.specs.declared.option.Option.the-variants.{Some, None}
 use Rattle.std.specs.declared.result.Result.{Result}
 use Rattle.std.specs.declared.result.Result.the-variants.{Ok, Err}
+use Rattle.glyph_key.specs.Faults.{key-number}
 use Rattle.glyph_key.specs.declared.key.Join.{Join}
 use Rattle.glyph_key.specs.declared.key.Join.the-variants.{Bevel, Miter, Round}
 use Rattle.glyph_key.specs.declared.key.FontEmbolden.{FontEmbolden}
@@ -111,6 +113,11 @@ axis-values k = take (k .axes) (axis-places k)
 abbrev pub axes-kept : Result GlyphCacheKey KeyFault → List ℤ → Type 0
 axes-kept (Ok k) vs = axis-values k ≡ vs
 axes-kept (Err e) vs = Unit {0}
+
+pub record Keyed (p : KeyParts) (bucket : ℕ) (vs : List ℤ) (r : Result GlyphCacheKey KeyFault) : Type 0 where
+  pub answer : r ≡ key-of p bucket vs
+  pub number : refused-with key-number r ≡ key-refusal p vs
+  pub axes : axes-kept r vs
 
 -- the twelve fields as numbers (a flag is 1 or 0), then how many axis values there are, then their places
 abbrev pub fields : GlyphCacheKey → List ℤ

@@ -5,8 +5,7 @@ ghost use mathlib.Core.Bool.{not};
 ghost use lib.Dec.{T};
 ghost use lib.ListN.{length};
 ghost use Rattle.glyph_key.specs.Bucket.{bucketOf};
-ghost use Rattle.glyph_key.specs.Faults.{key-number};
-ghost use Rattle.glyph_key.specs.Keys.{join-number, axis, unreadable, unreadable-embolden, key-with, key-of, key-refusal, refused-with, axes-kept};
+ghost use Rattle.glyph_key.specs.Keys.{join-number, axis, unreadable, unreadable-embolden, key-with, Keyed};
 use crate::bucket::narrow_bits;
 use crate::bucket::quantize_subpixel;
 use crate::fault::KeyFault;
@@ -86,7 +85,7 @@ fn assemble(parts: KeyParts, subpixel_x: u8, var_coords: &[i16]) -> GlyphCacheKe
 }
 
 fn build(parts: KeyParts, subpixel_x: u8, var_coords: &[i16]) -> Result<GlyphCacheKey, KeyFault>
-    ensures { λ r. ⌜ r ≡ key-of parts «subpixel_x» (now («var_coords» .entry)) ⌝ }
+    ensures { λ r. ⌜ Keyed parts «subpixel_x» (now («var_coords» .entry)) r ⌝ }
 {
     if var_coords.len() > MOST_AXES {
         return Err(KeyFault::TooManyAxes);
@@ -104,17 +103,13 @@ impl GlyphCacheKey {
         fractional_x: f32,
         var_coords: &[i16],
     ) -> Result<GlyphCacheKey, KeyFault>
-        ensures value { λ r. ⌜ r ≡ key-of parts (bucketOf «fractional_x») (now («var_coords» .entry)) ⌝ }
-        ensures number { λ r. ⌜ refused-with key-number r ≡ key-refusal parts (now («var_coords» .entry)) ⌝ }
-        ensures axes { λ r. ⌜ axes-kept r (now («var_coords» .entry)) ⌝ }
+        ensures { λ r. ⌜ Keyed parts (bucketOf «fractional_x») (now («var_coords» .entry)) r ⌝ }
     {
         build(parts, quantize_subpixel(fractional_x), var_coords)
     }
 
     pub fn for_bitmap(parts: KeyParts, var_coords: &[i16]) -> Result<GlyphCacheKey, KeyFault>
-        ensures value { λ r. ⌜ r ≡ key-of parts 5 (now («var_coords» .entry)) ⌝ }
-        ensures number { λ r. ⌜ refused-with key-number r ≡ key-refusal parts (now («var_coords» .entry)) ⌝ }
-        ensures axes { λ r. ⌜ axes-kept r (now («var_coords» .entry)) ⌝ }
+        ensures { λ r. ⌜ Keyed parts 5 (now («var_coords» .entry)) r ⌝ }
     {
         build(parts, SUBPIXEL_BITMAP, var_coords)
     }

@@ -6,6 +6,12 @@ use crate::key::GlyphCacheKey;
 use crate::key::GlyphCacheKeyPartialEq;
 use crate::key::KeyBits;
 
+fn equal(a: &GlyphCacheKey, b: &GlyphCacheKey) -> bool
+    ensures { λ r. ⌜ Decides r (now (a .entry) ≡ now (b .entry)) ⌝ }
+{
+    *a == *b
+}
+
 impl GlyphCacheKey {
     pub fn bucket(&self) -> u8
         ensures { λ r. ⌜ r ≡ now (self .entry) .«subpixel_x» ⌝ }
@@ -30,6 +36,6 @@ impl GlyphCacheKey {
         ensures value { λ r. ⌜ r ≡ same-key (now (self .entry)) (now (other .entry)) ⌝ }
         ensures equality { λ r. ⌜ Decides r (now (self .entry) ≡ now (other .entry)) ⌝ }
     {
-        *self == *other
+        equal(self, other)
     }
 }

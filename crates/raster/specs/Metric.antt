@@ -30,6 +30,12 @@ is-extent z = between (pos 0) (pos 65533) z
 abbrev pub is-bearing : ℤ → Bool
 is-bearing z = between (negsuc 32767) (pos 32767) z
 
+abbrev pub extent-of : ℤ → Result ℕ RasterFault
+extent-of z = cond (is-extent z) (Ok (natAbs z)) (Err Metrics)
+
+abbrev pub bearing-of : ℤ → Result ℤ RasterFault
+bearing-of z = cond (is-bearing z) (Ok z) (Err Metrics)
+
 -- from the four edges
 abbrev pub from-edges : (left right top bottom : ℤ) → Result RasterMetrics RasterFault
 from-edges left right top bottom =
@@ -37,16 +43,17 @@ from-edges left right top bottom =
     (Ok (record { width = natAbs (right -ℤ left); height = natAbs (bottom -ℤ top); left = left; top = top }))
     (Err Metrics)
 
--- from a box in units
-abbrev pub from-units : (x0 y0 x1 y1 : ℤ) → Result RasterMetrics RasterFault
-from-units x0 y0 x1 y1 =
-    cond (leZ x0 x1 && leZ y0 y1)
-    (from-edges (floorOf x0) (ceilOf x1 +ℤ pos 1) (floorOf (negℤ y1)) (ceilOf (negℤ y0)))
-    (Err Metrics)
+-- the box is not inverted
+abbrev pub in-order : Rect → Bool
+in-order b = leZ (unitsOf (b .x0)) (unitsOf (b .x1)) && leZ (unitsOf (b .y0)) (unitsOf (b .y1))
+
+-- the edges of a picture: outward to whole pixels, y turned downward
+abbrev pub from-ordered : Rect → Result RasterMetrics RasterFault
+from-ordered b = from-edges (floorOf (unitsOf (b .x0))) (ceilOf (unitsOf (b .x1)) +ℤ pos 1) (floorOf (negℤ (unitsOf (b .y1)))) (ceilOf (negℤ (unitsOf (b .y0))))
 
 -- a product that overflows to an infinity is refused as well: no width or height in range comes of it
 abbrev pub from-box : Rect → Result RasterMetrics RasterFault
-from-box b = cond (finite-rect b) (from-units (unitsOf (b .x0)) (unitsOf (b .y0)) (unitsOf (b .x1)) (unitsOf (b .y1))) (Err Metrics)
+from-box b = cond (finite-rect b) (cond (in-order b) (from-ordered b) (Err Metrics)) (Err Metrics)
 
 abbrev pub bounds-of : GlyphOutline → Rect
 bounds-of o = times (o .path .bounds) (o .scale)

@@ -22,7 +22,9 @@ pub impl fmt::Display for RasterFault as RasterFaultDisplay {
     fn fmt<W: fmt::Write>(&self, f: &mut fmt::Formatter<W>) -> fmt::Result {
         match *self {
             RasterFault::Metrics => {
-                f.write_str("the box is inverted, or no width, height and bearings in range come of it")
+                f.write_str(
+                    "the box is inverted, or no width, height and bearings in range come of it",
+                )
             }
         }
     }

@@ -9,7 +9,7 @@ ghost use Rattle.std.specs.Numbers.{saturated};
 ghost use Rattle.floats.specs.Units.{unitsOf, floorOf, ceilOf};
 ghost use Rattle.shapes.specs.Numbers.{finite-rect, times};
 ghost use Rattle.raster.specs.declared.glyph.Glyph.the-variants.{Bitmap};
-ghost use Rattle.raster.specs.Metric.{is-extent, is-bearing, from-edges, from-box, metrics-of, in-order};
+ghost use Rattle.raster.specs.Metric.{extent-of, bearing-of, from-edges, from-ordered, from-box, metrics-of, in-order};
 use crate::fault::RasterFault;
 use crate::glyph::Glyph;
 use crate::glyph::GlyphBitmap;
@@ -36,37 +36,51 @@ fn ceil_whole(x: f64) -> i32
     saturating_f64_to_i32(x.ceil())
 }
 
-fn span(near: i32, far: i32) -> i64
-    ensures { λ r. ⌜ r ≡ far -ℤ near ⌝ }
+// One pixel more to the right, since a picture is shifted by up to three quarters of one.
+fn width_between(left: i32, right: i32) -> i64
+    ensures { λ r. ⌜ r ≡ (right +ℤ pos 1) -ℤ left ⌝ }
 {
-    far as i64 - near as i64
+    right as i64 + 1 - left as i64
 }
 
-fn is_extent(size: i64) -> bool
-    ensures { λ r. ⌜ r ≡ is-extent size ⌝ }
+fn height_between(top: i32, bottom: i32) -> i64
+    ensures { λ r. ⌜ r ≡ bottom -ℤ top ⌝ }
 {
-    (0 <= size) & (size <= LARGEST as i64)
+    bottom as i64 - top as i64
 }
 
-fn is_bearing(n: i32) -> bool
-    ensures { λ r. ⌜ r ≡ is-bearing n ⌝ }
+fn extent(size: i64) -> Result<u16, RasterFault>
+    ensures { λ r. ⌜ r ≡ extent-of size ⌝ }
 {
-    (i16::MIN as i32 <= n) & (n <= i16::MAX as i32)
+    if 0 <= size && size <= 65533 {
+        Ok(size as u16)
+    } else {
+        Err(RasterFault::Metrics)
+    }
+}
+
+fn bearing(edge: i32) -> Result<i16, RasterFault>
+    ensures { λ r. ⌜ r ≡ bearing-of edge ⌝ }
+{
+    if -32768 <= edge && edge <= 32767 {
+        Ok(edge as i16)
+    } else {
+        Err(RasterFault::Metrics)
+    }
 }
 
 fn place(left: i32, right: i32, top: i32, bottom: i32) -> Result<RasterMetrics, RasterFault>
     ensures { λ r. ⌜ r ≡ from-edges left (right +ℤ pos 1) top bottom ⌝ }
 {
-    let width = span(left, right) + 1;
-    let height = span(top, bottom);
-    if !(is_extent(width) & is_extent(height) & is_bearing(left) & is_bearing(top)) {
-        return Err(RasterFault::Metrics);
-    }
+    let width = extent(width_between(left, right))?;
+    let height = extent(height_between(top, bottom))?;
+    let left = bearing(left)?;
+    let top = bearing(top)?;
     Ok(RasterMetrics {
-        width: width as u16,
-        height: height as u16,
-        left: left as i16,
-        top: top as i16,
+        width,
+        height,
+        left,
+        top,
     })
 }
 
@@ -77,7 +91,19 @@ fn is_in_order(b: Rect) -> bool
     (b.x0 <= b.x1) & (b.y0 <= b.y1)
 }
 
-// One pixel more to the right, since a picture is shifted by up to three quarters of one.
+// Outward to whole pixels, y turned downward.
+fn from_ordered(b: Rect) -> Result<RasterMetrics, RasterFault>
+    requires { ⌜ T (finite-rect b) ⌝ }
+    ensures { λ r. ⌜ r ≡ from-ordered b ⌝ }
+{
+    place(
+        floor_whole(b.x0),
+        ceil_whole(b.x1),
+        floor_whole(-b.y1),
+        ceil_whole(-b.y0),
+    )
+}
+
 fn from_box(b: Rect) -> Result<RasterMetrics, RasterFault>
     ensures { λ r. ⌜ r ≡ from-box b ⌝ }
 {
@@ -87,12 +113,7 @@ fn from_box(b: Rect) -> Result<RasterMetrics, RasterFault>
     if !is_in_order(b) {
         return Err(RasterFault::Metrics);
     }
-    place(
-        floor_whole(b.x0),
-        ceil_whole(b.x1),
-        floor_whole(-b.y1),
-        ceil_whole(-b.y0),
-    )
+    from_ordered(b)
 }
 
 fn scaled(b: Rect, scale: f64) -> Rect

@@ -6,3 +6,4 @@ pub mod InOrder
 pub mod Floors
 pub mod Sizes
 pub mod Negated
+pub mod Wholes

@@ -15,8 +15,9 @@ use Rattle.glyph_key.specs.declared.key.GlyphCacheKey.{GlyphCacheKey}
 use Rattle.glyph_key.specs.declared.key.KeyParts.{KeyParts}
 use Rattle.glyph_key.specs.declared.fault.KeyFault.{KeyFault}
 use Rattle.glyph_key.specs.declared.fault.KeyFault.the-variants.{TooManyAxes, NotANumber}
+use Rattle.shapes.specs.Answers.{refused-with}
 use Rattle.glyph_key.specs.Faults.{key-number}
-use Rattle.glyph_key.specs.Keys.{Keyed, key-of, key-with, axis-values, axes-kept, key-refusal, refused-with, unreadable}
+use Rattle.glyph_key.specs.Keys.{Keyed, key-of, key-with, axis-values, axes-kept, key-refusal, unreadable}
 
 -- the choice that `key-of` makes by its two tests
 abbrev chosen : Bool → Bool → GlyphCacheKey → Result GlyphCacheKey KeyFault

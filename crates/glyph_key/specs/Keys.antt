@@ -7,7 +7,6 @@
 --     axis-values k        the axis values that it was made with
 --     same-key a b         all fields agree, the axis values too, and so does their number
 --     outline-bucket b, bitmap-bucket b    b is a bucket for outlines (0 to 3), for bitmaps (5)
---     refused-with number r    the number of a refusal, if r is one
 use Prim.Native.Nat.{ℕ}
 use mathlib.Core.Path.{_≡_}
 use mathlib.Core.Bool.{Bool, true, false, cond, _&&_, _||_}
@@ -21,6 +20,7 @@ use Rattle.std.specs.declared.option.Option.{Option}
 use Rattle.std.specs.declared.option.Option.the-variants.{Some, None}
 use Rattle.std.specs.declared.result.Result.{Result}
 use Rattle.std.specs.declared.result.Result.the-variants.{Ok, Err}
+use Rattle.shapes.specs.Answers.{refused-with}
 use Rattle.glyph_key.specs.Faults.{key-number}
 use Rattle.glyph_key.specs.declared.key.Join.{Join}
 use Rattle.glyph_key.specs.declared.key.Join.the-variants.{Bevel, Miter, Round}
@@ -89,10 +89,6 @@ key-of p bucket vs = cond (ltb 8 (length vs)) (Err TooManyAxes) (cond (unreadabl
 
 abbrev pub key-refusal : KeyParts → List ℤ → Option ℕ
 key-refusal p vs = cond (ltb 8 (length vs)) (Some 2) (cond (unreadable p) (Some 3) None)
-
-abbrev pub refused-with : {R E : Type 0} → (E → ℕ) → Result R E → Option ℕ
-refused-with number (Ok r) = None
-refused-with number (Err e) = Some (number e)
 
 abbrev pub bits-of : GlyphCacheKey → KeyBits
 bits-of k = record {

@@ -1,3 +1,4 @@
 pub mod Finite
 pub mod Edges
 pub mod Cut
+pub mod Covering

@@ -1,3 +1,4 @@
 pub mod Faults
 pub mod Metric
 pub mod Supported
+pub mod Cover

@@ -9,6 +9,7 @@ ghost use Rattle.std.specs.Numbers.{saturated};
 ghost use Rattle.floats.specs.Units.{unitsOf, floorOf, ceilOf};
 ghost use Rattle.shapes.specs.Numbers.{finite-rect, times};
 ghost use Rattle.raster.specs.declared.glyph.Glyph.the-variants.{Bitmap};
+ghost use Rattle.raster.specs.Cover.{Measured};
 ghost use Rattle.raster.specs.Metric.{extent-of, bearing-of, from-edges, from-ordered, from-box, metrics-of, in-order};
 use crate::fault::RasterFault;
 use crate::glyph::Glyph;
@@ -148,8 +149,9 @@ fn of_bitmap(bitmap: GlyphBitmap) -> Result<RasterMetrics, RasterFault>
     })
 }
 
+// The size of a glyph's picture, or why it can have none.
 pub fn calculate_raster_metrics(glyph: Glyph) -> Result<RasterMetrics, RasterFault>
-    ensures { λ r. ⌜ r ≡ metrics-of glyph ⌝ }
+    ensures { λ r. ⌜ Measured glyph r ⌝ }
 {
     match glyph {
         Glyph::Outline(outline) => of_outline(outline),

@@ -1,19 +1,17 @@
 -- What a summary becomes with one more verdict. Counts stop at 2 ^ 64 - 1. Assumes nothing.
---     known ks k       a key of the list is the same as k
---     with-key ks k    the list with k at its end, unless it is known
 --     slot-pixels m    the pixels of a picture's slot: one more on every side
 --     Added s v t      t is the summary s with the verdict v added
 use Prim.Native.Nat.{ℕ, _+_, _-_, _*_, _^_, min}
 use mathlib.Core.Path.{_≡_}
-use mathlib.Core.Bool.{Bool, false, cond, _||_}
-use mathlib.Core.List.{List, [], _∷_, _++_}
+use mathlib.Core.Bool.{cond}
+use mathlib.Core.List.{List, []}
 use Rattle.std.specs.Of.Vec.{vec-items}
 use Rattle.std.specs.declared.result.Result.{Result}
 use Rattle.std.specs.declared.result.Result.the-variants.{Ok, Err}
 use Rattle.glyph_key.specs.declared.key.GlyphCacheKey.{GlyphCacheKey}
 use Rattle.glyph_key.specs.declared.fault.KeyFault.the-variants.{TooManyAxes, NotANumber}
-use Rattle.glyph_key.specs.Keys.{same-key}
 use Rattle.raster.specs.declared.glyph.RasterMetrics.{RasterMetrics}
+use Rattle.try_page.specs.Once.{known, with-key}
 use Rattle.try_page.specs.declared.verdict.Verdict.{Verdict}
 use Rattle.try_page.specs.declared.verdict.Verdict.the-variants.{Atlas, Plain}
 use Rattle.try_page.specs.declared.verdict.LetterFault.{LetterFault}
@@ -23,13 +21,6 @@ use Rattle.try_page.specs.declared.summary.Summary.{Summary}
 
 abbrev pub more : ℕ → ℕ → ℕ
 more n k = min (n + k) (2 ^ 64 - 1)
-
-abbrev pub known : List GlyphCacheKey → GlyphCacheKey → Bool
-known [] k = false
-known (x ∷ xs) k = same-key x k || known xs k
-
-abbrev pub with-key : List GlyphCacheKey → GlyphCacheKey → List GlyphCacheKey
-with-key ks k = cond (known ks k) ks (ks ++ k ∷ [])
 
 abbrev pub slot-pixels : RasterMetrics → ℕ
 slot-pixels m = (m .width + 2) * (m .height + 2)
@@ -70,11 +61,11 @@ refusals-after r (Err e) = refused-more r e
 pub record Added (s : Summary) (v : Result Verdict LetterFault) (t : Summary) : Type 0 where
   pub of-letters : t .letters ≡ more (s .letters) 1
   pub of-plain : t .plain ≡ plain-after (s .plain) v
-  pub of-pixels : t .pixels ≡ pixels-after (s .pixels) (vec-items (s .pictures)) v
+  pub of-pixels : t .pixels ≡ pixels-after (s .pixels) (vec-items (s .pictures .items)) v
   pub of-unread : t .unread ≡ s .unread
   pub of-refusals : t .refusals ≡ refusals-after (s .refusals) v
-  pub of-keys : vec-items (t .keys) ≡ keys-after (vec-items (s .keys)) v
-  pub of-pictures : vec-items (t .pictures) ≡ slots-after (vec-items (s .pictures)) v
+  pub of-keys : vec-items (t .keys .items) ≡ keys-after (vec-items (s .keys .items)) v
+  pub of-pictures : vec-items (t .pictures .items) ≡ slots-after (vec-items (s .pictures .items)) v
 
 -- nothing has been added
 pub record Blank (t : Summary) : Type 0 where
@@ -83,8 +74,8 @@ pub record Blank (t : Summary) : Type 0 where
   pub no-pixels : t .pixels ≡ 0
   pub no-unread : t .unread ≡ 0
   pub no-refusals : t .refusals ≡ record { «not_finite» = 0; «too_many_axes» = 0; «not_a_number» = 0; «no_metrics» = 0 }
-  pub no-keys : vec-items (t .keys) ≡ []
-  pub no-pictures : vec-items (t .pictures) ≡ []
+  pub no-keys : vec-items (t .keys .items) ≡ []
+  pub no-pictures : vec-items (t .pictures .items) ≡ []
 
 -- one more line that could not be read, and all else as it was
 pub record Unread (s t : Summary) : Type 0 where
@@ -93,5 +84,5 @@ pub record Unread (s t : Summary) : Type 0 where
   pub same-plain : t .plain ≡ s .plain
   pub same-pixels : t .pixels ≡ s .pixels
   pub same-refusals : t .refusals ≡ s .refusals
-  pub same-keys : vec-items (t .keys) ≡ vec-items (s .keys)
-  pub same-pictures : vec-items (t .pictures) ≡ vec-items (s .pictures)
+  pub same-keys : vec-items (t .keys .items) ≡ vec-items (s .keys .items)
+  pub same-pictures : vec-items (t .pictures .items) ≡ vec-items (s .pictures .items)

@@ -42,7 +42,7 @@ pub struct Draft {
     transform: Option<Affine>,
 }
 
-// What a font asks for that emboldens nothing.
+// What a letter has whose line has no `embolden`.
 const NO_EMBOLDEN: FontEmbolden = FontEmbolden {
     amount_x: 0.0,
     amount_y: 0.0,
@@ -88,7 +88,7 @@ impl Draft {
         words: &mut Words<'a>,
     ) -> Result<Draft, LineFault<'a>> {
         let mut draft = Draft::new();
-        while let Some(word) = words.next() {
+        while let Some(word) = words.next_word() {
             let field = Field::named(word).ok_or(LineFault::UnknownField(word))?;
             if !field.is_for(kind) {
                 return Err(LineFault::OtherKind(field, kind));

@@ -29,11 +29,11 @@ impl<'a> Letter<'a> {
             return Err(LineFault::NotText);
         };
         let mut words = Words::of(text);
-        let Some(word) = words.next() else {
+        let Some(word) = words.next_word() else {
             return Ok(None);
         };
         let kind = Kind::named(word).ok_or(LineFault::UnknownKind(word))?;
-        let name = words.next().ok_or(LineFault::NoName)?;
+        let name = words.next_word().ok_or(LineFault::NoName)?;
         let draft = Draft::read(heap, kind, &mut words)?;
         Ok(Some(Letter {
             name,

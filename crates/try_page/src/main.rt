@@ -2,6 +2,7 @@
 mod draft;
 mod failure;
 mod field;
+mod key_set;
 mod letter;
 mod line_fault;
 mod page;

@@ -1,13 +1,11 @@
 // What a whole page asks of the atlas.
 ghost use mathlib.Core.Path.{_≡_};
-ghost use mathlib.Core.Bool.{not};
-ghost use Rattle.std.specs.Of.Vec.{vec-items};
 ghost use Rattle.std.specs.Vec.{made};
-ghost use Rattle.try_page.specs.Tally.{known, with-key, slot-pixels, refused-more, Added, Blank, Unread};
+ghost use Rattle.try_page.specs.Tally.{slot-pixels, refused-more, Added, Blank, Unread};
+use crate::key_set::KeySet;
 use crate::verdict::LetterFault;
 use crate::verdict::Verdict;
 use glyph_key::fault::KeyFault;
-use glyph_key::key::GlyphCacheKey;
 use raster::fault::RasterFault;
 use raster::glyph::RasterMetrics;
 use std::alloc::AllocError;
@@ -23,7 +21,7 @@ pub struct Refusals {
     no_metrics: u64,
 }
 
-// `keys` has each key of a letter that is not refused once, and `pictures` those of them that a letter drawn from the atlas has.
+// `keys` has the keys of the letters that are not refused, and `pictures` those of the letters that are drawn from the atlas.
 #[derive(Drop)]
 pub struct Summary {
     letters: u64,
@@ -31,39 +29,17 @@ pub struct Summary {
     pixels: u64,
     unread: u64,
     refusals: Refusals,
-    keys: Vec<GlyphCacheKey>,
-    pictures: Vec<GlyphCacheKey>,
+    keys: KeySet,
+    pictures: KeySet,
 }
 
-// Pixels round a picture, on every side one.
+// A picture has one pixel of padding on every side.
 const PADDING: u64 = 2;
 
 fn slot_pixels(metrics: RasterMetrics) -> u64
     ensures { λ r. ⌜ r ≡ slot-pixels metrics ⌝ }
 {
     (u64::from(metrics.width) + PADDING) * (u64::from(metrics.height) + PADDING)
-}
-
-fn is_known(keys: &[GlyphCacheKey], key: &GlyphCacheKey) -> bool
-    ensures { λ r. ⌜ r ≡ known (now (keys .entry)) (now (key .entry)) ⌝ }
-{
-    for kept in keys {
-        if kept.same(key) {
-            return true;
-        }
-    }
-    false
-}
-
-// Whether the key is new, and then it is added.
-fn add_key(keys: &mut Vec<GlyphCacheKey>, key: GlyphCacheKey) -> Result<bool, AllocError>
-    ensures { λ r. ⌜ made r (λ new. (new ≡ not (known (vec-items (now (keys .entry))) key)) × (vec-items (now (keys .exit)) ≡ with-key (vec-items (now (keys .entry))) key)) ⌝ }
-{
-    if is_known(keys.as_slice(), &key) {
-        return Ok(false);
-    }
-    keys.push(key)?;
-    Ok(true)
 }
 
 impl Refusals {
@@ -98,8 +74,8 @@ impl Summary {
                 not_a_number: 0,
                 no_metrics: 0,
             },
-            keys: Vec::new(heap),
-            pictures: Vec::new(heap),
+            keys: KeySet::new(heap),
+            pictures: KeySet::new(heap),
         }
     }
 
@@ -109,14 +85,14 @@ impl Summary {
         self.letters = self.letters.saturating_add(1);
         match verdict {
             Ok(Verdict::Atlas(key, metrics)) => {
-                add_key(&mut self.keys, key)?;
-                if add_key(&mut self.pictures, key)? {
+                self.keys.add(key)?;
+                if self.pictures.add(key)? {
                     self.pixels = self.pixels.saturating_add(slot_pixels(metrics));
                 }
             }
             Ok(Verdict::Plain(key)) => {
                 self.plain = self.plain.saturating_add(1);
-                add_key(&mut self.keys, key)?;
+                self.keys.add(key)?;
             }
             Err(fault) => self.refusals.add(fault),
         }

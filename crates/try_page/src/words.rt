@@ -46,7 +46,7 @@ impl<'a> Words<'a> {
         }
     }
 
-    pub fn next(&mut self) -> Option<&'a str>
+    pub fn next_word(&mut self) -> Option<&'a str>
         ensures { λ r. ⌜ BySome r (Unit {0}) (λ _. left-of (now (self .exit)) < left-of (now (self .entry))) ⌝ }
     {
         let word = self.rest.next()?;
@@ -60,7 +60,7 @@ impl<'a> Words<'a> {
     fn value(&mut self, field: Field) -> Result<&'a str, LineFault<'a>>
         ensures { λ r. ⌜ made r (λ _. left-of (now (self .exit)) < left-of (now (self .entry))) ⌝ }
     {
-        match self.next() {
+        match self.next_word() {
             Some(word) => Ok(word),
             None => Err(LineFault::NoValue(field)),
         }

@@ -3,22 +3,26 @@
 --     finite-letter l  every number of its transform, scale, box or area is finite
 --     verdict-of l     the verdict: the key's refusals come first, then numbers that are not finite, then a transform that the atlas does not serve, which is no refusal, then the metrics'
 --     fault-number e   the number of a refusal
+--     letter-refusal l the number with which it is refused, by the conditions alone
 use Prim.Native.Nat.{ℕ}
-use mathlib.Core.Bool.{Bool, true, false, _&&_}
+use mathlib.Core.Bool.{Bool, true, false, cond, _&&_}
 use mathlib.Core.List.{List}
 use lib.IntN.{ℤ}
 use lib.Ieee.{Float}
 use Rattle.std.specs.Floats.{finite}
 use Rattle.std.specs.Of.Vec.{vec-items}
+use Rattle.std.specs.declared.option.Option.{Option}
+use Rattle.std.specs.declared.option.Option.the-variants.{Some, None}
 use Rattle.std.specs.declared.result.Result.{Result}
 use Rattle.std.specs.declared.result.Result.the-variants.{Ok, Err}
+use Rattle.shapes.specs.Answers.{refused-with}
 use Rattle.shapes.specs.Numbers.{finite-affine, finite-rect, finite-path}
 use Rattle.glyph_key.specs.declared.key.KeyParts.{KeyParts}
 use Rattle.glyph_key.specs.declared.key.GlyphCacheKey.{GlyphCacheKey}
 use Rattle.glyph_key.specs.declared.fault.KeyFault.{KeyFault}
 use Rattle.glyph_key.specs.Bucket.{bucketOf}
 use Rattle.glyph_key.specs.Faults.{key-number}
-use Rattle.glyph_key.specs.Keys.{key-of}
+use Rattle.glyph_key.specs.Keys.{key-of, key-refusal}
 use Rattle.raster.specs.declared.glyph.Glyph.{Glyph}
 use Rattle.raster.specs.declared.glyph.Glyph.the-variants.{Outline, Bitmap}
 use Rattle.raster.specs.declared.glyph.RasterMetrics.{RasterMetrics}
@@ -62,3 +66,13 @@ verdict-from (Ok k) true true (Ok m) = Ok (Atlas k m)
 
 abbrev pub verdict-of : Letter → Result Verdict LetterFault
 verdict-of l = verdict-from (letter-key l) (finite-letter l) (supported (l .glyph) (l .transform)) (metrics-of (l .glyph))
+
+abbrev pub or-else : Option ℕ → Option ℕ → Option ℕ
+or-else (Some n) later = Some n
+or-else None later = later
+
+-- 2 or 3 for the key, else 1, else 5 where the transform is served
+abbrev pub letter-refusal : Letter → Option ℕ
+letter-refusal l =
+    or-else (key-refusal (l .parts) (vec-items (l .axes)))
+    (cond (finite-letter l) (cond (supported (l .glyph) (l .transform)) (refused-with raster-number (metrics-of (l .glyph))) None) (Some 1))

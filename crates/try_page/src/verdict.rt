@@ -1,7 +1,11 @@
 // What the atlas makes of a letter: drawn from a slot, drawn plainly, or refused.
 ghost use mathlib.Core.Path.{_≡_};
 ghost use Rattle.try_page.specs.declared.verdict.LetterFault.the-variants.{Key, Raster};
-ghost use Rattle.try_page.specs.Verdicts.{fault-number, finite-glyph, letter-key, verdict-of};
+ghost use Rattle.std.specs.Of.Vec.{vec-items};
+ghost use Rattle.shapes.specs.Answers.{refused-with};
+ghost use Rattle.glyph_key.specs.Faults.{key-number};
+ghost use Rattle.glyph_key.specs.Keys.{key-refusal};
+ghost use Rattle.try_page.specs.Verdicts.{fault-number, finite-glyph, letter-key, verdict-of, letter-refusal};
 use crate::letter::Letter;
 use glyph_key::fault::KeyFault;
 use glyph_key::fault::KeyFaultDisplay;
@@ -79,7 +83,8 @@ fn is_finite_glyph(glyph: Glyph) -> bool
 
 impl<'a> Letter<'a> {
     fn key(&self) -> Result<GlyphCacheKey, KeyFault>
-        ensures { λ r. ⌜ r ≡ letter-key (now (self .entry)) ⌝ }
+        ensures answer { λ r. ⌜ r ≡ letter-key (now (self .entry)) ⌝ }
+        ensures number { λ r. ⌜ refused-with key-number r ≡ key-refusal (now (self .entry) .parts) (vec-items (now (self .entry) .axes)) ⌝ }
     {
         let axes = self.axes.as_slice();
         match self.glyph {
@@ -89,7 +94,8 @@ impl<'a> Letter<'a> {
     }
 
     pub fn verdict(&self) -> Result<Verdict, LetterFault>
-        ensures { λ r. ⌜ r ≡ verdict-of (now (self .entry)) ⌝ }
+        ensures answer { λ r. ⌜ r ≡ verdict-of (now (self .entry)) ⌝ }
+        ensures number { λ r. ⌜ refused-with fault-number r ≡ letter-refusal (now (self .entry)) ⌝ }
     {
         let key = self.key()?;
         if !(self.transform.is_finite() & is_finite_glyph(self.glyph)) {

@@ -1,4 +1,6 @@
 // What the libraries answer to a vector, and how the answer is written.
+ghost use mathlib.Core.Path.{_≡_};
+ghost use Rattle.float_vectors.specs.Asked.{bits-asked, finite-shape, answer-of};
 use crate::vectors::Shape;
 use crate::vectors::Vector;
 use glyph_key::bucket::quantize_subpixel;
@@ -24,12 +26,16 @@ pub enum Answer {
 }
 
 // The numbers of the key at fraction 0 and with no axis values.
-fn narrowed(parts: KeyParts) -> Result<KeyBits, KeyFault> {
+fn narrowed(parts: KeyParts) -> Result<KeyBits, KeyFault>
+    ensures { λ r. ⌜ r ≡ bits-asked parts ⌝ }
+{
     let key = GlyphCacheKey::for_outline(parts, 0.0, &[])?;
     Ok(key.bits())
 }
 
-fn is_finite(shape: Shape) -> bool {
+fn is_finite(shape: Shape) -> bool
+    ensures { λ r. ⌜ r ≡ finite-shape shape ⌝ }
+{
     match shape {
         Shape::Affine(affine) => affine.is_finite(),
         Shape::Rect(rect) => rect.is_finite(),
@@ -38,7 +44,9 @@ fn is_finite(shape: Shape) -> bool {
     }
 }
 
-pub fn answer_to(vector: Vector) -> Answer {
+pub fn answer_to(vector: Vector) -> Answer
+    ensures { λ r. ⌜ r ≡ answer-of vector ⌝ }
+{
     match vector {
         Vector::Bucket(fraction) => Answer::Bucket(quantize_subpixel(fraction)),
         Vector::Narrow(parts) => Answer::Narrow(narrowed(parts)),

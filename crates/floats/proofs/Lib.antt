@@ -2,6 +2,7 @@ pub mod Numbers
 pub mod Units
 pub mod Scaling
 pub mod Sums
+pub mod Fractions
 pub mod InOrder
 pub mod Floors
 pub mod Sizes

@@ -3,8 +3,8 @@ ghost use mathlib.Core.Path.{_≡_};
 ghost use mathlib.Core.Bool.{not};
 ghost use lib.Dec.{T};
 ghost use lib.Ieee as Ieee;
-ghost use Rattle.glyph_key.specs.Bucket.{bucketOf, Within-an-eighth, To-nearest};
-ghost use Rattle.glyph_key.specs.Steps.{byIeee, fraction, turned};
+ghost use Rattle.glyph_key.specs.Bucket.{nearOf, bucketOf, Within-an-eighth, To-nearest};
+ghost use Rattle.glyph_key.specs.Steps.{fraction, turned, quartersByIeee, nearByIeee, byIeee};
 ghost use Rattle.glyph_key.specs.Keys.{narrowed};
 use std::num::nearest_f64_to_f32;
 use std::num::saturating_f32_to_u8;
@@ -20,6 +20,22 @@ fn reduce(frac: f32) -> f32
     if part < 0.0 { part + 1.0 } else { part }
 }
 
+fn in_quarters(frac: f32) -> f32
+    ensures { λ r. ⌜ r ≡ quartersByIeee frac ⌝ }
+{
+    (reduce(frac) * 4.0).round()
+}
+
+// 0 to 4.
+fn nearest_quarter(frac: f32) -> u8
+    ensures steps { λ r. ⌜ r ≡ nearByIeee frac ⌝ }
+    ensures value { λ r. ⌜ r ≡ nearOf frac ⌝ }
+    ensures nearest { λ _. ⌜ Within-an-eighth ⌝ }
+    ensures rounding { λ _. ⌜ To-nearest ⌝ }
+{
+    saturating_f32_to_u8(in_quarters(frac))
+}
+
 // Near the next pixel the last bucket is taken: bucket 0 would need the whole coordinate moved on as well, and show the glyph most of a pixel too far left.
 pub fn quantize_subpixel(frac: f32) -> u8
     ensures steps { λ r. ⌜ r ≡ byIeee frac ⌝ }
@@ -27,8 +43,7 @@ pub fn quantize_subpixel(frac: f32) -> u8
     ensures nearest { λ _. ⌜ Within-an-eighth ⌝ }
     ensures rounding { λ _. ⌜ To-nearest ⌝ }
 {
-    let near = (reduce(frac) * 4.0).round();
-    saturating_f32_to_u8(near).min(SUBPIXEL_BUCKETS - 1)
+    nearest_quarter(frac).min(SUBPIXEL_BUCKETS - 1)
 }
 
 // The bits of the nearest f32, ties to even.

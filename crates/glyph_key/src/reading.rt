@@ -7,7 +7,8 @@ use crate::key::GlyphCacheKeyPartialEq;
 use crate::key::KeyBits;
 
 fn equal(a: &GlyphCacheKey, b: &GlyphCacheKey) -> bool
-    ensures { λ r. ⌜ Decides r (now (a .entry) ≡ now (b .entry)) ⌝ }
+    ensures value { λ r. ⌜ r ≡ same-key (now (a .entry)) (now (b .entry)) ⌝ }
+    ensures equality { λ r. ⌜ Decides r (now (a .entry) ≡ now (b .entry)) ⌝ }
 {
     *a == *b
 }

@@ -1,4 +1,5 @@
 pub mod Faults
 pub mod Metric
-pub mod Supported
 pub mod Cover
+pub mod Steps
+pub mod Supported

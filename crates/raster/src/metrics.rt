@@ -8,9 +8,9 @@ ghost use Rattle.std.specs.Floats.{finite};
 ghost use Rattle.std.specs.Numbers.{saturated};
 ghost use Rattle.floats.specs.Units.{unitsOf, floorOf, ceilOf};
 ghost use Rattle.shapes.specs.Numbers.{finite-rect, times};
-ghost use Rattle.raster.specs.declared.glyph.Glyph.the-variants.{Bitmap};
+ghost use Rattle.raster.specs.declared.glyph.Glyph.the-variants.{Outline, Bitmap};
 ghost use Rattle.raster.specs.Cover.{Measured};
-ghost use Rattle.raster.specs.Metric.{extent-of, bearing-of, from-edges, from-ordered, from-box, metrics-of, in-order};
+ghost use Rattle.raster.specs.Metric.{extent-of, bearing-of, from-edges, from-ordered, from-box, in-order};
 use crate::fault::RasterFault;
 use crate::glyph::Glyph;
 use crate::glyph::GlyphBitmap;
@@ -129,13 +129,13 @@ fn scaled(b: Rect, scale: f64) -> Rect
 }
 
 fn of_outline(outline: GlyphOutline) -> Result<RasterMetrics, RasterFault>
-    ensures { λ r. ⌜ r ≡ from-box (times (outline .path .bounds) (outline .scale)) ⌝ }
+    ensures { λ r. ⌜ Measured (Outline outline) r ⌝ }
 {
     from_box(scaled(outline.path.bounds, outline.scale))
 }
 
 fn of_bitmap(bitmap: GlyphBitmap) -> Result<RasterMetrics, RasterFault>
-    ensures { λ r. ⌜ r ≡ metrics-of (Bitmap bitmap) ⌝ }
+    ensures { λ r. ⌜ Measured (Bitmap bitmap) r ⌝ }
 {
     let pixmap = bitmap.pixmap;
     if (pixmap.width > LARGEST) | (pixmap.height > LARGEST) {

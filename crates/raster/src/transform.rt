@@ -1,11 +1,8 @@
 // Which transforms can use a picture on a page.
 ghost use mathlib.Core.Path.{_≡_};
 ghost use lib.Dec.{T};
-ghost use lib.IntN.{pos};
-ghost use lib.Signed.{ltZ};
-ghost use Rattle.std.specs.Floats.{finite};
-ghost use Rattle.floats.specs.Units.{unitsOf};
-ghost use Rattle.raster.specs.Supported.{straight, unit-sized, linear-finite, outline-ok, bitmap-ok, supported};
+ghost use Rattle.raster.specs.Steps.{nearly-straight, nearly-unit};
+ghost use Rattle.raster.specs.Supported.{linear-finite, outline-ok, bitmap-ok, supported};
 use crate::glyph::Glyph;
 use shapes::Affine;
 
@@ -17,32 +14,16 @@ const UNDER_ONE: f64 = 0.999755859375;
 const OVER_ONE: f64 = 1.000244140625;
 
 fn is_straight(x: f64) -> bool
-    requires { ⌜ T (finite x) ⌝ }
-    ensures { λ r. ⌜ r ≡ straight (unitsOf x) ⌝ }
+    ensures { λ r. ⌜ r ≡ nearly-straight x ⌝ }
 {
     x.abs() <= NEARLY_ZERO
 }
 
 fn is_unit(x: f64) -> bool
-    requires { ⌜ T (finite x) ⌝ }
-    ensures { λ r. ⌜ r ≡ unit-sized (unitsOf x) ⌝ }
+    ensures { λ r. ⌜ r ≡ nearly-unit x ⌝ }
 {
     let size = x.abs();
     (UNDER_ONE <= size) & (size <= OVER_ONE)
-}
-
-fn is_positive(x: f64) -> bool
-    requires { ⌜ T (finite x) ⌝ }
-    ensures { λ r. ⌜ r ≡ ltZ (pos 0) (unitsOf x) ⌝ }
-{
-    0.0 < x
-}
-
-fn is_negative(x: f64) -> bool
-    requires { ⌜ T (finite x) ⌝ }
-    ensures { λ r. ⌜ r ≡ ltZ (unitsOf x) (pos 0) ⌝ }
-{
-    x < 0.0
 }
 
 fn is_linear_finite(t: Affine) -> bool
@@ -55,12 +36,7 @@ fn supports_outline(t: Affine) -> bool
     requires { ⌜ T (linear-finite t) ⌝ }
     ensures { λ r. ⌜ r ≡ outline-ok t ⌝ }
 {
-    is_straight(t.b)
-        & is_straight(t.c)
-        & is_unit(t.a)
-        & is_unit(t.d)
-        & is_positive(t.a)
-        & is_negative(t.d)
+    is_straight(t.b) & is_straight(t.c) & is_unit(t.a) & is_unit(t.d) & (0.0 < t.a) & (t.d < 0.0)
 }
 
 fn supports_bitmap(t: Affine) -> bool

@@ -6,7 +6,7 @@ ghost use Rattle.std.specs.Options.{isSome};
 ghost use Rattle.std.specs.Results.{isOk};
 ghost use Rattle.std.specs.Vec.{made};
 ghost use Rattle.std.specs.declared.option.Option.the-variants.{Some};
-ghost use Rattle.try_page.specs.Reading.{left-of, kind-of};
+ghost use Rattle.try_page.specs.Reading.{left-of, kind-of, PartsFrom, OutlineFrom, BitmapFrom};
 use crate::field::Field;
 use crate::field::Kind;
 use crate::line_fault::LineFault;
@@ -126,7 +126,9 @@ impl Draft {
         }
     }
 
-    pub fn parts<'a>(&self) -> Result<KeyParts, LineFault<'a>> {
+    pub fn parts<'a>(&self) -> Result<KeyParts, LineFault<'a>>
+        ensures { λ r. ⌜ made r (λ p. PartsFrom (now (self .entry)) p) ⌝ }
+    {
         let font_id = self.font.ok_or(LineFault::Missing(Field::Font))?;
         let glyph_id = self.glyph.ok_or(LineFault::Missing(Field::Glyph))?;
         let size = self.size.ok_or(LineFault::Missing(Field::Size))?;
@@ -141,7 +143,9 @@ impl Draft {
         })
     }
 
-    fn outline<'a>(&self) -> Result<GlyphOutline, LineFault<'a>> {
+    fn outline<'a>(&self) -> Result<GlyphOutline, LineFault<'a>>
+        ensures { λ r. ⌜ made r (λ o. OutlineFrom (now (self .entry)) o) ⌝ }
+    {
         let bounds = self.bounds.ok_or(LineFault::Missing(Field::Bounds))?;
         Ok(GlyphOutline {
             path: Path {
@@ -153,7 +157,9 @@ impl Draft {
     }
 
     // Unless the line says otherwise, a bitmap goes where its pixels are.
-    fn bitmap<'a>(&self) -> Result<GlyphBitmap, LineFault<'a>> {
+    fn bitmap<'a>(&self) -> Result<GlyphBitmap, LineFault<'a>>
+        ensures { λ r. ⌜ made r (λ b. BitmapFrom (now (self .entry)) b) ⌝ }
+    {
         let (width, height) = self.pixmap.ok_or(LineFault::Missing(Field::Pixmap))?;
         let whole = Rect {
             x0: 0.0,

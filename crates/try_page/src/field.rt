@@ -7,7 +7,7 @@ pub enum Kind {
     Bitmap,
 }
 
-#[derive(Clone, Copy, PartialEq, Eq)]
+#[derive(Clone, Copy)]
 pub enum Field {
     Font,
     Index,

@@ -3,7 +3,6 @@ use crate::field::Field;
 use crate::field::FieldDisplay;
 use crate::field::Kind;
 use crate::field::KindDisplay;
-use std::alloc::AllocError;
 use std::alloc::Refused;
 use std::fmt;
 
@@ -19,12 +18,6 @@ pub enum LineFault<'a> {
     NoValue(Field),
     BadValue(Field, &'a str),
     Missing(Field),
-}
-
-pub impl<'a> From<AllocError> for LineFault<'a> as LineFaultFromAlloc {
-    fn from(_e: AllocError) -> LineFault<'a> {
-        LineFault::NoMemory
-    }
 }
 
 pub impl<'a, T: Drop> From<Refused<T>> for LineFault<'a> as LineFaultFromRefused {

@@ -3,7 +3,7 @@
 --     kind-of g            whether a glyph is an outline or a bitmap
 --     PartsFrom d p        the key's parts p are what the fields d give, with the defaults for fields that are left out
 --     OutlineFrom d o      likewise of an outline
---     BitmapFrom d b       and of a bitmap; its area is the whole pixmap where it is left out
+--     BitmapFrom d b       and of a bitmap, whose area is the whole pixmap where it is left out
 --     PictureFrom d k g    and of a glyph of the kind k
 --     usual-transform k    the transform of a letter of kind k, where it is left out: an outline is turned over
 --     axes-from d          the axis values
@@ -12,7 +12,7 @@ use mathlib.Core.Path.{_≡_}
 use mathlib.Core.Bool.{true, false}
 use mathlib.Core.List.{List, []}
 use lib.IntN.{ℤ, pos}
-use lib.Ieee.{Float, fin, binary64, ofBits}
+use lib.Ieee.{Float, fin, binary64, ofBits, ofInt}
 use Rattle.std.specs.Floats.{zero, one}
 use Rattle.std.specs.Of.Vec.{vec-items}
 use Rattle.std.specs.Matches.{ascii-left}
@@ -22,6 +22,7 @@ use Rattle.std.specs.declared.vec.Vec.{Vec}
 use Rattle.std.specs.declared.option.Option.{Option}
 use Rattle.std.specs.declared.option.Option.the-variants.{Some, None}
 use Rattle.shapes.specs.declared.Affine.{Affine}
+use Rattle.shapes.specs.declared.Rect.{Rect}
 use Rattle.glyph_key.specs.declared.key.FontEmbolden.{FontEmbolden}
 use Rattle.glyph_key.specs.declared.key.Join.the-variants.{Miter}
 use Rattle.glyph_key.specs.declared.key.KeyParts.{KeyParts}
@@ -59,9 +60,13 @@ pub record OutlineFrom (d : Draft) (o : GlyphOutline) : Type 0 where
   pub of-path : o .path .handle ≡ valueOr (d .path) 0
   pub of-scale : o .scale ≡ valueOr (d .scale) one
 
+-- 0 0 W H
+abbrev pub whole : ℕ → ℕ → Rect
+whole w h = record { x0 = zero; y0 = zero; x1 = ofInt binary64 (pos w); y1 = ofInt binary64 (pos h) }
+
 pub record BitmapFrom (d : Draft) (b : GlyphBitmap) : Type 0 where
   pub of-pixmap : d .pixmap ≡ Some (b .pixmap .width, b .pixmap .height)
-  pub of-area : b .area ≡ valueOr (d .area) (b .area)
+  pub of-area : b .area ≡ valueOr (d .area) (whole (b .pixmap .width) (b .pixmap .height))
 
 abbrev pub PictureFrom : Draft → Kind → Glyph → Type 0
 PictureFrom d Outline (glyphs.Outline o) = OutlineFrom d o

@@ -15,7 +15,7 @@ unfolding ofBits corner
 returns c = record {
   of-pixmap = search needs;
   of-area =
-    c .unwrap-or .ensures
-    ∙ ap (λ (x : Float). valueOr (c .args .self .now .area) (corner x (c .from-2 .result))) (c .from .ensures)
-    ∙ ap (λ (y : Float). valueOr (c .args .self .now .area) (corner (ofInt binary64 (pos (c .in-Continue-width .width))) y)) (c .from-2 .ensures)
+      c .unwrap-or .ensures
+      ∙ ap (λ (x : Float). valueOr (c .args .self .now .area) (corner x (c .from-2 .result))) (c .from .ensures)
+      ∙ ap (λ (y : Float). valueOr (c .args .self .now .area) (corner (ofInt binary64 (pos (c .in-Continue-width .width))) y)) (c .from-2 .ensures);
 }

@@ -1,4 +1,5 @@
 // Why a page was not gone through to its end.
+use std::alloc::AllocError;
 use std::fmt;
 use std::io;
 
@@ -7,6 +8,7 @@ pub enum Failure {
     Arguments(io::Error),
     Open(String, io::Error),
     Stopped(io::Error),
+    Cache,
 }
 
 pub impl From<io::Error> for Failure as FailureFromIo {
@@ -15,11 +17,18 @@ pub impl From<io::Error> for Failure as FailureFromIo {
     }
 }
 
+pub impl From<AllocError> for Failure as FailureFromAlloc {
+    fn from(error: AllocError) -> Failure {
+        Failure::Stopped(io::Error::from(error))
+    }
+}
+
 pub impl fmt::Display for Failure as FailureDisplay {
     fn fmt<W: fmt::Write>(&self, f: &mut fmt::Formatter<W>) -> fmt::Result {
         match self {
             Failure::Arguments(error) => write!(f, "cannot read its arguments: {error}"),
             Failure::Open(path, error) => write!(f, "cannot open {path}: {error}"),
+            Failure::Cache => f.write_str("a cache is `shelf WIDTH HEIGHT PAGES` or `grid SIDE PAGES`"),
             Failure::Stopped(error) => write!(f, "stopped before the end of the page: {error}"),
         }
     }

@@ -42,6 +42,12 @@ impl KeySet {
         self.items.len()
     }
 
+    pub fn has(&self, key: &GlyphCacheKey) -> bool
+        ensures { λ r. ⌜ r ≡ known (vec-items (now (self .entry) .items)) (now (key .entry)) ⌝ }
+    {
+        is_known(self.items.as_slice(), key)
+    }
+
     // Whether the key is new, and then it is added.
     pub fn add(&mut self, key: GlyphCacheKey) -> Result<bool, AllocError>
         ensures { λ r. ⌜ made r (λ new. (new ≡ not (known (vec-items (now (self .entry) .items)) key)) × (vec-items (now (self .exit) .items) ≡ with-key (vec-items (now (self .entry) .items)) key)) ⌝ }

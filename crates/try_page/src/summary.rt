@@ -1,11 +1,14 @@
 // What a whole page asks of the atlas.
 ghost use mathlib.Core.Path.{_≡_};
 ghost use Rattle.std.specs.Vec.{made};
+ghost use Rattle.std.specs.Of.Vec.{vec-items};
+ghost use Rattle.try_page.specs.Once.{known};
 ghost use Rattle.try_page.specs.Tally.{slot-pixels, refused-more, Added, Blank, Unread};
 use crate::key_set::KeySet;
 use crate::verdict::LetterFault;
 use crate::verdict::Verdict;
 use glyph_key::fault::KeyFault;
+use glyph_key::key::GlyphCacheKey;
 use raster::fault::RasterFault;
 use raster::glyph::RasterMetrics;
 use std::alloc::AllocError;
@@ -77,6 +80,13 @@ impl Summary {
             keys: KeySet::new(heap),
             pictures: KeySet::new(heap),
         }
+    }
+
+    // Whether a letter with that key is drawn from the atlas already.
+    pub fn has_picture(&self, key: &GlyphCacheKey) -> bool
+        ensures { λ r. ⌜ r ≡ known (vec-items (now (self .entry) .pictures .items)) (now (key .entry)) ⌝ }
+    {
+        self.pictures.has(key)
     }
 
     pub fn add(&mut self, verdict: Result<Verdict, LetterFault>) -> Result<(), AllocError>

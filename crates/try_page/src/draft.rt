@@ -2,11 +2,13 @@
 ghost use Prim.Native.Nat.{_≤_};
 ghost use mathlib.Core.Path.{_≡_};
 ghost use mathlib.Core.Bool.{not};
-ghost use Rattle.std.specs.Options.{isSome};
+ghost use Rattle.std.specs.Floats.{zero};
+ghost use Rattle.std.specs.Of.Vec.{vec-items};
+ghost use Rattle.std.specs.Options.{isSome, valueOr};
 ghost use Rattle.std.specs.Results.{isOk};
 ghost use Rattle.std.specs.Vec.{made};
 ghost use Rattle.std.specs.declared.option.Option.the-variants.{Some};
-ghost use Rattle.try_page.specs.Reading.{left-of, kind-of, PartsFrom, OutlineFrom, BitmapFrom};
+ghost use Rattle.try_page.specs.Reading.{left-of, PartsFrom, OutlineFrom, BitmapFrom, PictureFrom, usual-transform, axes-from};
 use crate::field::Field;
 use crate::field::Kind;
 use crate::line_fault::LineFault;
@@ -49,6 +51,26 @@ const NO_EMBOLDEN: FontEmbolden = FontEmbolden {
     join: Join::Miter,
     miter_limit: 4.0,
     tolerance: 0.1,
+};
+
+// The usual transform of an outline, which has y upward.
+const TURNED_OVER: Affine = Affine {
+    a: 1.0,
+    b: 0.0,
+    c: 0.0,
+    d: -1.0,
+    e: 0.0,
+    f: 0.0,
+};
+
+// The usual transform of a bitmap.
+const UPRIGHT: Affine = Affine {
+    a: 1.0,
+    b: 0.0,
+    c: 0.0,
+    d: 1.0,
+    e: 0.0,
+    f: 0.0,
 };
 
 fn fill<'a, T: Drop>(place: &mut Option<T>, field: Field, value: T) -> Result<(), LineFault<'a>>
@@ -178,7 +200,7 @@ impl Draft {
     }
 
     pub fn picture<'a>(&self, kind: Kind) -> Result<Glyph, LineFault<'a>>
-        ensures { λ r. ⌜ made r (λ g. kind-of g ≡ kind) ⌝ }
+        ensures { λ r. ⌜ made r (λ g. PictureFrom (now (self .entry)) kind g) ⌝ }
     {
         match kind {
             Kind::Outline => Ok(Glyph::Outline(self.outline()?)),
@@ -186,28 +208,24 @@ impl Draft {
         }
     }
 
-    // An outline has y upward and is turned over; a bitmap stands as it is.
-    pub fn transform(&self, kind: Kind) -> Affine {
-        let d = match kind {
-            Kind::Outline => -1.0,
-            Kind::Bitmap => 1.0,
-        };
-        let plain = Affine {
-            a: 1.0,
-            b: 0.0,
-            c: 0.0,
-            d,
-            e: 0.0,
-            f: 0.0,
-        };
-        self.transform.unwrap_or(plain)
+    pub fn transform(&self, kind: Kind) -> Affine
+        ensures { λ r. ⌜ r ≡ valueOr (now (self .entry) .transform) (usual-transform kind) ⌝ }
+    {
+        match kind {
+            Kind::Outline => self.transform.unwrap_or(TURNED_OVER),
+            Kind::Bitmap => self.transform.unwrap_or(UPRIGHT),
+        }
     }
 
-    pub fn fraction(&self) -> f32 {
+    pub fn fraction(&self) -> f32
+        ensures { λ r. ⌜ r ≡ valueOr (now (self .entry) .at) zero ⌝ }
+    {
         self.at.unwrap_or(0.0)
     }
 
-    pub fn into_axes(self, heap: Global) -> Vec<i16> {
+    pub fn into_axes(self, heap: Global) -> Vec<i16>
+        ensures { λ r. ⌜ vec-items r ≡ axes-from self ⌝ }
+    {
         self.axes.unwrap_or(Vec::new(heap))
     }
 }

@@ -5,8 +5,8 @@ ghost use Rattle.shapes.specs.Answers.{Keeps-refused};
 ghost use Rattle.image_cache.specs.Caches.{Allocated};
 ghost use Rattle.grid_cache.specs.Cells.{grid-cache, Chosen};
 use crate::grid::Grid;
-use crate::grid::PAGE;
-use crate::grid::ROW;
+use crate::grid::PAGE_CELLS;
+use crate::grid::ROW_CELLS;
 use image_cache::cache::ImageCache;
 use image_cache::fault::CacheFault;
 use image_cache::image::Image;
@@ -15,7 +15,7 @@ pub impl ImageCache for Grid as GridCache {
     ghost meaning = { grid-cache };
 
     fn page_width(&self) -> u16 {
-        self.span(ROW)
+        self.span(ROW_CELLS)
     }
 
     fn page_height(&self) -> u16 {
@@ -58,9 +58,9 @@ pub impl ImageCache for Grid as GridCache {
         let size = self.sizes[id as usize];
         Some(Image {
             id,
-            page: id / PAGE,
-            x: self.span(id % ROW),
-            y: self.span(id % PAGE / ROW),
+            page: id / PAGE_CELLS,
+            x: self.span(id % ROW_CELLS),
+            y: self.span(id % PAGE_CELLS / ROW_CELLS),
             w: size.w,
             h: size.h,
         })

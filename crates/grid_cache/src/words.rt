@@ -3,7 +3,7 @@ ghost use mathlib.Core.Path.{_≡_};
 ghost use Prim.Native.Nat.{_-_, _^_, _<_};
 ghost use lib.Count.{leadingZeros};
 ghost use Rattle.grid_cache.specs.Cells.{toggled, word-of, First-room};
-use crate::grid::PAGE;
+use crate::grid::PAGE_CELLS;
 
 // All cells are free on a page that is there, and none on one that is not.
 pub(crate) fn new_word(page: u32, count: u32) -> u64
@@ -32,7 +32,7 @@ pub(crate) fn turn(free: &mut [u64; 4], id: u32)
     requires { ⌜ id < 256 ⌝ }
     ensures { λ _. ⌜ now (free .exit) ≡ toggled (now (free .entry)) id ⌝ }
 {
-    free[(id / PAGE) as usize] ^= bit_of(id % PAGE);
+    free[(id / PAGE_CELLS) as usize] ^= bit_of(id % PAGE_CELLS);
 }
 
 // The first page with a free cell.

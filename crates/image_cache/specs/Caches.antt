@@ -3,9 +3,13 @@
 --     Pixel            a pixel of a page
 --     Within p page x y w h    the pixel lies in the rectangle of w by h pixels at (x, y) of that page
 --     In p a           the pixel lies in the image a
+--     Inside c a       the image a lies inside a page
 --     Empty c          no image is live
+--     Limits c         the sizes and the page count are within the limits
 --     Lawful c         what holds of every cache at every time
 --     Allocated c w h r d, Freed c id r d    what a call answered with r makes of the cache c: the cache d
+--     Added c w h id d, Removed c id d       the call was done
+--     No-room c w h e d, No-image c id e d   it was refused with e
 --     Same-sizes c d   sizes and page count are equal
 use mathlib.Core.Path.{_≡_}
 use mathlib.Core.Bool.{Bool, true, false}

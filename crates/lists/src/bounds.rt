@@ -2,7 +2,7 @@
 ghost use mathlib.Core.Path.{_≡_};
 ghost use mathlib.Core.List.{[]};
 ghost use lib.ListN.{length, set};
-ghost use Rattle.std.specs.Vec.{made};
+ghost use Rattle.std.specs.Vec.{made, refused};
 ghost use Rattle.std.specs.shelf.Maps.{nth};
 ghost use Rattle.lists.specs.Lists.{removed};
 ghost use Rattle.lists.specs.Bounds.{held, appended, accepted};
@@ -36,6 +36,7 @@ impl<T: Copy, const N: usize> Bounded<T, N> {
     pub fn push(&mut self, x: T) -> Result<(), Full>
         ensures value { λ r. ⌜ r ≡ accepted N (held (now (self .entry))) ⌝ }
         ensures items { λ _. ⌜ held (now (self .exit)) ≡ appended N (held (now (self .entry))) x ⌝ }
+        ensures keeps { λ r. ⌜ refused r (λ _. now (self .exit) ≡ now (self .entry)) ⌝ }
     {
         if self.len() >= N {
             return Err(Full);

@@ -1,0 +1,49 @@
+-- Where an image goes, from the two searches.
+use mathlib.Core.Path.{_≡_, refl, sym, ap, subst, _∙_}
+use mathlib.Core.Bool.{Bool, true, false, cond, _&&_}
+use mathlib.Core.List.{List}
+use mathlib.Core.Logic.{_⊎_, inl, inr, ⊎-elim}
+use Prim.Native.Nat.{ℕ, _≤_, _<_}
+use lib.Dec.{ltb, leb}
+use Rattle.std.specs.Options.{mapped}
+use Rattle.std.proofs.shelf.Tests.{lt-ltb, le-leb, ltb-true, leb-true, and-from, and-parts}
+use Rattle.std.specs.declared.option.Option.{Option}
+use Rattle.std.specs.declared.option.Option.the-variants.{None, Some}
+use Rattle.shelf_cache.specs.declared.shelf.Shelf.{Shelf}
+use Rattle.shelf_cache.specs.declared.shelf.Place.{Place}
+use Rattle.shelf_cache.specs.Places.{or-else, first-below, FirstBelow, takes-at, opens-at, size-fits, old-place, new-place, place-of, Fit}
+use Rattle.shelf_cache.specs.Sound.{Gapless}
+use Rattle.shelf_cache.proofs.First.{first-is}
+use Rattle.shelf_cache.proofs.Rooms.{first-page}
+
+pub sized : (width height w h : ℕ) → 0 < w → w ≤ width → 0 < h → h ≤ height → size-fits width height w h ≡ true
+sized width height w h a b c d = and-from _ _ (and-from _ _ (lt-ltb 0 w a) (le-leb w width b)) (and-from _ _ (lt-ltb 0 h c) (le-leb h height d))
+
+pub unsized : (width height w h : ℕ) → size-fits width height w h ≡ true → (0 < w) × (w ≤ width) × (0 < h) × (h ≤ height)
+unsized width height w h z =
+    let p = and-parts (ltb 0 w && leb w width) (ltb 0 h && leb h height) z in
+    let a = and-parts (ltb 0 w) (leb w width) (p .0) in
+    let b = and-parts (ltb 0 h) (leb h height) (p .1) in
+    (ltb-true _ _ (a .0), leb-true _ _ (a .1), ltb-true _ _ (b .0), leb-true _ _ (b .1))
+
+module _ (width height count : ℕ) (shelves : List Shelf) (w h : ℕ) where
+  pub place-both : (a b : Option ℕ) → size-fits width height w h ≡ true → FirstBelow (takes-at width w h shelves) 64 a → FirstBelow (opens-at count height h shelves) 64 b
+      → place-of width height count shelves w h ≡ or-else (mapped (old-place shelves) a) (mapped (new-place shelves h) b)
+  place-both a b z f g =
+      ap (λ t. cond t (or-else (mapped (old-place shelves) (first-below (takes-at width w h shelves) 64)) (mapped (new-place shelves h) (first-below (opens-at count height h shelves) 64))) None) z
+      ∙ (ap (λ o. or-else (mapped (old-place shelves) o) (mapped (new-place shelves h) (first-below (opens-at count height h shelves) 64))) (first-is (takes-at width w h shelves) 64 a f)
+      ∙ ap (λ o. or-else (mapped (old-place shelves) a) (mapped (new-place shelves h) o)) (first-is (opens-at count height h shelves) 64 b g))
+
+  pub place-old : (s : ℕ) → size-fits width height w h ≡ true → FirstBelow (takes-at width w h shelves) 64 (Some s) → place-of width height count shelves w h ≡ Some (old-place shelves s)
+  place-old s z f =
+      ap (λ t. cond t (or-else (mapped (old-place shelves) (first-below (takes-at width w h shelves) 64)) (mapped (new-place shelves h) (first-below (opens-at count height h shelves) 64))) None) z
+      ∙ ap (λ o. or-else (mapped (old-place shelves) o) (mapped (new-place shelves h) (first-below (opens-at count height h shelves) 64))) (first-is (takes-at width w h shelves) 64 (Some s) f)
+
+  pub fit-old : (s : ℕ) → size-fits width height w h ≡ true → FirstBelow (takes-at width w h shelves) 64 (Some s) → Fit width height count shelves w h (old-place shelves s)
+  fit-old s z f = record { size = z; there = f .0; chosen = inl (record { is = refl; takes-it = f .1; none-before = f .2 }) }
+
+  pub fit-new : (s : ℕ) → Gapless shelves → size-fits width height w h ≡ true → FirstBelow (takes-at width w h shelves) 64 None → FirstBelow (opens-at count height h shelves) 64 (Some s) → Fit width height count shelves w h (new-place shelves h s)
+  fit-new s G z f g = record { size = z; there = g .0; chosen = inr (record { no-shelf-takes = f; is = refl; opens = g .1; none-before = g .2; page = first-page count height h shelves G s (g .1) (g .2) }) }
+
+  pub place-none : size-fits width height w h ≡ false → place-of width height count shelves w h ≡ None
+  place-none z = ap (λ t. cond t (or-else (mapped (old-place shelves) (first-below (takes-at width w h shelves) 64)) (mapped (new-place shelves h) (first-below (opens-at count height h shelves) 64))) None) z

@@ -1,15 +1,13 @@
--- What an image that comes or goes changes.
+-- What an image that comes or goes changes of the cache's meaning: that image alone.
 use mathlib.Core.Path.{_≡_, refl, sym, ap, subst, _∙_}
-use mathlib.Core.Bool.{Bool, true, false, cond, _&&_}
+use mathlib.Core.Bool.{Bool, true, false}
 use mathlib.Core.List.{List}
 use mathlib.Core.Logic.{_⊎_, inl, inr, ⊎-elim}
-use Prim.Native.Nat.{ℕ, _+_, _≤_, _<_}
+use Prim.Native.Nat.{ℕ, _+_, _-_, _≤_, _<_}
 use native.Mathlib.Omega.{arith}
-use lib.Dec.{eqb, ltb}
-use Rattle.std.specs.Options.{isSome}
 use lib.ListN.{length, getD, set}
 use Rattle.std.proofs.shelf.Lists.{getD-set-same, getD-set-other}
-use Rattle.std.proofs.shelf.Tests.{lt-ltb, le-ltb, eqb-true, eqb-false, cases-lt}
+use Rattle.std.proofs.shelf.Tests.{cases-lt}
 use Rattle.std.specs.declared.option.Option.{Option}
 use Rattle.std.specs.declared.option.Option.the-variants.{None, Some}
 use Rattle.image_cache.specs.Caches.{Cache, Added, Removed, Same-sizes}
@@ -17,69 +15,61 @@ use Rattle.image_cache.specs.declared.image.Image.{Image}
 use Rattle.shelf_cache.specs.declared.shelf.Shelf.{Shelf}
 use Rattle.shelf_cache.specs.declared.shelf.Spot.{Spot}
 use Rattle.shelf_cache.specs.Rows.{no-spot, spot-at}
-use Rattle.shelf_cache.specs.Places.{is-live, live-count, live-of, image-of, has-at, left-of, cache-of, FirstBelow}
+use Rattle.shelf_cache.specs.Places.{live-of, image-of, left-of, cache-of}
 use Rattle.shelf_cache.specs.Sound.{Sound, Twins}
-use Rattle.shelf_cache.proofs.Moves.{shift, shift-other, moved-is, gone-is, kept-at}
-use Rattle.shelf_cache.proofs.Names.{has-is, live-when, dead-when, same-live}
-use Rattle.shelf_cache.proofs.First.{count-all, count-less}
+use Rattle.shelf_cache.proofs.Moves.{was, was-live, was-other, moved-is, kept-at}
+use Rattle.shelf_cache.proofs.Names.{Unnamed, live-when, dead-when, same-live}
 
--- an id is free exactly when fewer than 256 images are live
-pub some-left : (spots : List Spot) (i : ℕ) → i < 256 → eqb (spot-at spots i .w) 0 ≡ true → ltb (live-count spots) 256 ≡ true
-some-left spots i l e = let z : spot-at spots i .w ≡ 0 = eqb-true _ _ e in lt-ltb _ _ (count-less (is-live spots) 256 i l (le-ltb 0 (spot-at spots i .w) (omega arith)))
+module _ (width height count : ℕ) (shelves shelves′ : List Shelf) (spots : List Spot) (live : ℕ) (S : Sound width height count shelves spots live) where
+  -- the image a comes, with the first id that is free
+  module _ (l : live < length spots) (a : Spot) (own : a .id ≡ spot-at spots live .id) (S′ : Sound width height count shelves′ (set spots live a) (live + 1)) where
+    unnamed : Unnamed spots live (a .id)
+    unnamed j m e = let q = S .single j live (record { one = omega (arith, S .few); other = omega (arith, S′ .few); same = e ∙ own }) in omega arith
 
-pub none-left : (spots : List Spot) → ((k : ℕ) → k < 256 → eqb (spot-at spots k .w) 0 ≡ false) → ltb (live-count spots) 256 ≡ false
-none-left spots f =
-    let all : (k : ℕ) → k < 256 → is-live spots k ≡ true = λ k l. let ne = eqb-false (spot-at spots k .w) 0 (f k l) in lt-ltb 0 (spot-at spots k .w) (⊎-elim (λ m. m) (λ m. absurd (ne (omega arith))) (cases-lt 0 (spot-at spots k .w))) in
-    le-ltb _ _ (omega (arith, count-all (is-live spots) 256 all))
+    here : spot-at (set spots live a) live ≡ a
+    here = getD-set-same spots live a no-spot l
 
-module _ (width height count : ℕ) (shelves shelves′ : List Shelf) (spots : List Spot) (S : Sound width height count shelves spots) where
-  -- the image a comes, at the place j
-  module _ (j : ℕ) (l : j < length spots) (dead : spot-at spots j .w ≡ 0) (a : Spot) (w₀ : 0 < a .w) (fresh : (k : ℕ) → 0 < spot-at spots k .w → spot-at spots k .id ≡ a .id → ⊥)
-      (S′ : Sound width height count shelves′ (set spots j a)) where
-    pub live-here : live-of (set spots j a) (a .id) ≡ Some (image-of a)
-    live-here =
-        let e = getD-set-same spots j a no-spot l in
-        let W : Spot → Type 0 = λ b. 0 < b .w in
-        live-when (set spots j a) (S′ .few) (S′ .single) (a .id) j (subst W (sym e) w₀) (ap (λ (b : Spot). b .id) e) ∙ ap (λ (b : Spot). Some (image-of b)) e
+    pub live-here : live-of (set spots live a) (live + 1) (a .id) ≡ Some (image-of a)
+    live-here = live-when (set spots live a) (live + 1) (S′ .few) (S′ .single) (a .id) live (omega arith) (ap (λ (b : Spot). b .id) here) ∙ ap (λ (b : Spot). Some (image-of b)) here
 
-    pub added-is : cache-of width height count shelves spots .fits (a .w) (a .h) ≡ true → Added (cache-of width height count shelves spots) (a .w) (a .h) (a .id) (cache-of width height count shelves′ (set spots j a))
+    pub added-is : cache-of width height count shelves spots live .fits (a .w) (a .h) ≡ true
+        → Added (cache-of width height count shelves spots live) (a .w) (a .h) (a .id) (cache-of width height count shelves′ (set spots live a) (live + 1))
     added-is f = record {
       fitted = f;
-      fresh = dead-when spots (S .few) (a .id) fresh;
+      fresh = dead-when spots live (a .id) unnamed;
       image = image-of a;
-      here = live-here;
       wide = refl;
       high = refl;
-      others = λ i ne. same-live spots (set spots j a) (S .few) (S .single) (S′ .few) (S′ .single) i
-          (λ k _ t. (k, getD-set-other spots j k a no-spot (λ e. let P : ℕ → Type 0 = λ m. 0 < spot-at spots m .w in let p : 0 < spot-at spots j .w = subst P e (has-is spots i k t .0) in omega arith)))
-          (λ k m e. (k, getD-set-other spots j k a no-spot (λ q. ne (sym e ∙ (ap (λ n. spot-at (set spots j a) n .id) q ∙ ap (λ (b : Spot). b .id) (getD-set-same spots j a no-spot l))))));
+      here = live-here;
+      others = λ i ne. same-live spots (set spots live a) live (live + 1) (S .few) (S .single) (S′ .few) (S′ .single) i
+          (λ k m e. (k, (omega arith, getD-set-other spots live k a no-spot (λ q. omega arith))))
+          (λ k m e.
+          let other : k ≡ live → ⊥ = λ q. ne (sym e ∙ (ap (λ n. spot-at (set spots live a) n .id) q ∙ ap (λ (b : Spot). b .id) here)) in
+          (k, (⊎-elim (λ n. n) (λ n. absurd (other (omega arith))) (cases-lt k live), getD-set-other spots live k a no-spot other)));
       sizes = record { width = refl; height = refl; count = refl; widest = refl; highest = refl };
     }
 
   -- the image at k goes
-  module _ (i k : ℕ) (n : length spots ≡ 256) (kl : k < 256) (t : has-at spots i k ≡ true) (S′ : Sound width height count shelves′ (left-of spots k)) where
-    other-than : (j : ℕ) → 0 < spot-at spots j .w → spot-at spots j .id ≡ i → j ≡ k
-    other-than j l e = let p = has-is spots i k t in S .single j k (record { one-live = l; other-live = p .0; same = e ∙ sym (p .1) })
+  module _ (i k : ℕ) (n : length spots ≡ 256) (kl : k < live) (e : spot-at spots k .id ≡ i) (S′ : Sound width height count shelves′ (left-of spots k) (live - 1)) where
+    k₁ : k < 256
+    k₁ = omega (arith, S .few)
+
+    other-than : (j : ℕ) → j < live → spot-at spots j .id ≡ i → j ≡ k
+    other-than j l q = S .single j k (record { one = omega (arith, S .few); other = k₁; same = q ∙ sym e })
 
     -- where an image that is left was
-    was-at : (j : ℕ) → 0 < spot-at (left-of spots k) j .w → spot-at (left-of spots k) j ≡ spot-at spots (shift k j)
-    was-at j l = ⊎-elim (λ m. moved-is spots k n kl j m) (λ m. let e = gone-is spots k n kl j m in let z : spot-at (left-of spots k) j .w ≡ 0 = ap (λ (b : Spot). b .w) e in absurd (omega arith)) (cases-lt j 255)
+    was-at : (j : ℕ) → j < live - 1 → spot-at (left-of spots k) j ≡ spot-at spots (was k j)
+    was-at j l = moved-is spots k n k₁ j (omega (arith, S .few))
 
-    pub removed-is : Removed (cache-of width height count shelves spots) i (cache-of width height count shelves′ (left-of spots k))
+    pub removed-is : Removed (cache-of width height count shelves spots live) i (cache-of width height count shelves′ (left-of spots k) (live - 1))
     removed-is = record {
       image = image-of (spot-at spots k);
-      was = let p = has-is spots i k t in live-when spots (S .few) (S .single) i k (p .0) (p .1);
-      gone = dead-when (left-of spots k) (S′ .few) i (λ j l e.
-          let q = was-at j l in
-          let W : Spot → Type 0 = λ b. 0 < b .w in
+      was = live-when spots live (S .few) (S .single) i k kl e;
+      gone = dead-when (left-of spots k) (live - 1) i (λ j l q.
           let I : Spot → Type 0 = λ b. b .id ≡ i in
-          shift-other k j (other-than (shift k j) (subst W q l) (subst I q e)));
-      others = λ m ne. same-live spots (left-of spots k) (S .few) (S .single) (S′ .few) (S′ .single) m
-          (λ j jl u. kept-at spots k n kl j jl (λ e. ne (sym (has-is spots m j u .1) ∙ (ap (λ x. spot-at spots x .id) e ∙ has-is spots i k t .1))))
-          (λ j l _. (shift k j, was-at j l));
+          was-other k j live kl (S .few) l (other-than (was k j) (was-live k j live kl (S .few) l) (subst I (was-at j l) q)));
+      others = λ m ne. same-live spots (left-of spots k) live (live - 1) (S .few) (S .single) (S′ .few) (S′ .single) m
+          (λ j jl u. kept-at spots k n k₁ live (S .few) kl j jl (λ q. ne (sym u ∙ (ap (λ x. spot-at spots x .id) q ∙ e))))
+          (λ j l _. (was k j, (was-live k j live kl (S .few) l, was-at j l)));
       sizes = record { width = refl; height = refl; count = refl; widest = refl; highest = refl };
     }
-
-pub left-is : (spots : List Spot) (r : Option ℕ) → FirstBelow (λ i. eqb (spot-at spots i .w) 0) 256 r → ltb (live-count spots) 256 ≡ isSome r
-left-is spots None f = none-left spots f
-left-is spots (Some i) f = some-left spots i (f .0) (f .1)

@@ -1,22 +1,25 @@
--- An image that leaves its shelf leaves all sound.
+-- An image that leaves its shelf leaves all sound: first all but that its page may have empty lowest shelves, then those are gone.
 use mathlib.Core.Path.{_≡_, refl, sym, ap, subst, _∙_}
+use mathlib.Core.Bool.{cond}
 use mathlib.Core.List.{List}
 use mathlib.Core.Logic.{_⊎_, inl, inr, ⊎-elim}
-use Prim.Native.Nat.{ℕ, _+_, _*_, _/_, _≤_, _<_}
+use Prim.Native.Nat.{ℕ, _+_, _-_, _*_, _/_, _≤_, _<_}
 use native.Mathlib.Omega.{arith}
+use lib.Dec.{eqb}
 use lib.ListN.{length, getD, set}
-use Rattle.std.proofs.shelf.Lists.{getD-set-other}
-use Rattle.std.proofs.shelf.Tests.{cases-eq, cases-lt}
+use Rattle.std.proofs.shelf.Lists.{getD-set-same, getD-set-other}
+use Rattle.std.proofs.shelf.Tests.{cases-eq, cases-lt, eq-eqb, ne-eqb}
 use Rattle.shelf_cache.specs.declared.shelf.Shelf.{Shelf}
 use Rattle.shelf_cache.specs.declared.shelf.Spot.{Spot}
-use Rattle.shelf_cache.specs.Rows.{no-shelf, no-spot, shelf-at, spot-at}
-use Rattle.shelf_cache.specs.Sound.{Sound, Over, Row, Side, Pages, Paged, Inside, Inner, Gapless, Stacked, Placed, Upright, Few, Beside, Reset, Lowest, Bare, Idle, Lowered, Small, Single, Twins}
-use Rattle.shelf_cache.specs.Places.{Settled, left-of}
-use Rattle.shelf_cache.proofs.Moves.{shift, shift-one, moved-is, each-left, kept-at}
-use Rattle.shelf_cache.proofs.Rows.{by-row, back-row, here-row}
+use Rattle.shelf_cache.specs.Rows.{no-shelf, no-spot, shelf-at, spot-at, count-below}
+use Rattle.shelf_cache.specs.Sound.{Sound, Over, Row, Side, Pages, Paged, Inside, Inner, Gapless, Stacked, Few, Sized, Placed, Upright, Beside, Reset, Counted, Lowest, Bare, Idle, Lowered, Small, Single, Twins, stands-on}
+use Rattle.shelf_cache.specs.Places.{Settled, left-of, eased}
+use Rattle.shelf_cache.proofs.First.{count-none, count-some}
+use Rattle.shelf_cache.proofs.Moves.{was, was-bound, was-live, was-one, moved-is, each-left, kept-at, count-left}
+use Rattle.shelf_cache.proofs.Rows.{by-row}
 
 -- sound, but that one page may have empty lowest shelves
-pub record Loose (page width height count : ℕ) (shelves : List Shelf) (spots : List Spot) : Type 0 where
+pub record Loose (page width height count : ℕ) (shelves : List Shelf) (spots : List Spot) (live : ℕ) : Type 0 where
   pub wide : Side width
   pub high : Side height
   pub pages : Pages count
@@ -25,135 +28,151 @@ pub record Loose (page width height count : ℕ) (shelves : List Shelf) (spots :
   pub inner : Inner width shelves
   pub gapless : Gapless shelves
   pub stacked : Stacked shelves
-  pub placed : Placed shelves spots
-  pub upright : Upright shelves spots
-  pub few : Few spots
-  pub beside : Beside spots
-  pub reset : Reset shelves spots
+  pub few : Few live
+  pub sized : Sized spots live
+  pub placed : Placed shelves spots live
+  pub upright : Upright shelves spots live
+  pub beside : Beside spots live
+  pub reset : Reset shelves spots live
+  pub counted : Counted shelves spots live
+  pub lowest : (s : ℕ) → (s / 16 ≡ page → ⊥) → Idle shelves s → shelf-at shelves s .height ≡ 0
   pub small : Small spots
   pub single : Single spots
-  pub lowest : (s : ℕ) → (s / 16 ≡ page → ⊥) → Idle shelves s → shelf-at shelves s .height ≡ 0
 
-abbrev pub emptied : Shelf → Shelf
-emptied z = record { top = z .top; height = z .height; used = 0 }
+-- how far a shelf with one image less is used
+eased-one : (z : Shelf) → z .images ≡ 1 → eased z .used ≡ 0
+eased-one z e = ap (λ b. cond b 0 (z .used)) (eq-eqb (z .images) 1 e)
 
-module _ (width height count : ℕ) (shelves : List Shelf) (spots : List Spot) (S : Sound width height count shelves spots)
-    (k : ℕ) (n : length spots ≡ 256) (kl : k < 256) (at : ℕ) (on-at : spot-at spots k .shelf ≡ at) where
-  each-spot : (P : ℕ → Spot → Type 0) → ((j : ℕ) → P j no-spot) → ((j : ℕ) → j < 255 → P j (spot-at spots (shift k j))) → (j : ℕ) → P j (spot-at (left-of spots k) j)
-  each-spot = each-left spots k n kl
+eased-more : (z : Shelf) → (z .images ≡ 1 → ⊥) → eased z .used ≡ z .used
+eased-more z ne = ap (λ b. cond b 0 (z .used)) (ne-eqb (z .images) 1 ne)
 
-  pub few-left : Few (left-of spots k)
-  few-left = each-spot (λ j a. 256 ≤ j → a .w ≡ 0) (λ _ _. refl) (λ j l m. absurd (omega arith))
+module _ (width height count : ℕ) (shelves : List Shelf) (spots : List Spot) (live : ℕ) (S : Sound width height count shelves spots live)
+    (k : ℕ) (n : length spots ≡ 256) (kl : k < live) (at : ℕ) (on-at : spot-at spots k .shelf ≡ at) (al : at < length shelves) where
+  abbrev shelves′ : List Shelf
+  shelves′ = set shelves at (eased (shelf-at shelves at))
 
-  small-left : Small (left-of spots k)
-  small-left = each-spot (λ j a. a .id < 256) (λ j. omega arith) (λ j _. S .small (shift k j))
+  k₁ : k < 256
+  k₁ = omega (arith, S .few)
 
-  pub single-left : Single (left-of spots k)
-  single-left i j r =
-      each-spot (λ i a. (j : ℕ) → 0 < a .w → 0 < spot-at (left-of spots k) j .w → a .id ≡ spot-at (left-of spots k) j .id → i ≡ j)
-      (λ i j l _ _. absurd (omega arith))
-      (λ i _ j li l e. each-spot (λ j b. 0 < b .w → spot-at spots (shift k i) .id ≡ b .id → i ≡ j)
-      (λ j l _. absurd (omega arith))
-      (λ j _ l e. shift-one k i j (S .single (shift k i) (shift k j) (record { one-live = li; other-live = l; same = e })))
-      j l e)
-      i j (r .one-live) (r .other-live) (r .same)
+  each-shelf : (P : ℕ → Shelf → Type 0) → P at (eased (shelf-at shelves at)) → ((k : ℕ) → (k ≡ at → ⊥) → P k (shelf-at shelves k)) → (k : ℕ) → P k (shelf-at shelves′ k)
+  each-shelf P = by-row P shelves at (eased (shelf-at shelves at)) no-shelf al
 
-  beside-left : Beside (left-of spots k)
-  beside-left i j r =
-      each-spot (λ i a. (j : ℕ) → (i ≡ j → ⊥) → 0 < a .w → 0 < spot-at (left-of spots k) j .w → a .shelf ≡ spot-at (left-of spots k) j .shelf → a .x ≤ spot-at (left-of spots k) j .x → a .x + a .w ≤ spot-at (left-of spots k) j .x)
-      (λ i j _ l _ _ _. absurd (omega arith))
-      (λ i _ j ne li l e m. each-spot (λ j b. (i ≡ j → ⊥) → 0 < b .w → spot-at spots (shift k i) .shelf ≡ b .shelf → spot-at spots (shift k i) .x ≤ b .x → spot-at spots (shift k i) .x + spot-at spots (shift k i) .w ≤ b .x)
-      (λ j _ l _ _. absurd (omega arith))
-      (λ j _ ne l e m. S .beside (shift k i) (shift k j) (record { two = λ q. ne (shift-one k i j q); one-live = li; other-live = l; same = e; left = m }))
-      j ne l e m)
-      i j (r .two) (r .one-live) (r .other-live) (r .same) (r .left)
+  -- what held of each image where it was holds of each that is left
+  each-live : (P : ℕ → Spot → Type 0) → ((j : ℕ) → j < live - 1 → was k j < live → P j (spot-at spots (was k j))) → (j : ℕ) → j < live - 1 → P j (spot-at (left-of spots k) j)
+  each-live P moved j l = each-left spots k n k₁ (λ j a. j < live - 1 → P j a) (λ j _ l. moved j l (was-live k j live kl (S .few) l)) j (omega (arith, S .few)) l
+
+  -- one image less on its shelf, and as many as before on another
+  count-here : count-below (stands-on (left-of spots k) at) (live - 1) + 1 ≡ shelf-at shelves at .images
+  count-here =
+      let a = count-left spots k n k₁ live (S .few) kl (λ (b : Spot). eqb (b .shelf) at) in
+      let b : _≡_ {A = ℕ} (cond (eqb (spot-at spots k .shelf) at) 1 0) 1 = ap (λ x. cond x 1 0) (eq-eqb _ _ on-at) in
+      omega (arith, a, b, S .counted at)
+
+  count-other : (s : ℕ) → (s ≡ at → ⊥) → count-below (stands-on (left-of spots k) s) (live - 1) ≡ shelf-at shelves s .images
+  count-other s ne =
+      let a = count-left spots k n k₁ live (S .few) kl (λ (b : Spot). eqb (b .shelf) s) in
+      let b : _≡_ {A = ℕ} (cond (eqb (spot-at spots k .shelf) s) 1 0) 0 = ap (λ x. cond x 1 0) (ne-eqb _ _ (λ e. ne (sym e ∙ on-at))) in
+      omega (arith, a, b, S .counted s)
+
+  pub some-here : 0 < shelf-at shelves at .images
+  some-here = omega (arith, count-here)
+
+  -- it was the only image of its shelf exactly when the shelf is bare now
+  bare-one : Bare (left-of spots k) (live - 1) at → shelf-at shelves at .images ≡ 1
+  bare-one bare = let z = count-none (stands-on (left-of spots k) at) (live - 1) (λ j l. ne-eqb _ _ (bare j l)) in omega (arith, count-here)
+
+  one-bare : shelf-at shelves at .images ≡ 1 → Bare (left-of spots k) (live - 1) at
+  one-bare e j l q = let z = count-some (stands-on (left-of spots k) at) (live - 1) j l (eq-eqb _ _ q) in omega (arith, count-here)
 
   -- a shelf that the image was not on has no image if it has none now
-  bare-before : (s : ℕ) → (s ≡ at → ⊥) → Bare (left-of spots k) s → Bare spots s
-  bare-before s ne bare j e = ⊎-elim
-      (λ l. ⊎-elim
-      (λ q. let P : ℕ → Type 0 = λ k. spot-at spots k .shelf ≡ s in absurd (ne (sym (subst P q e) ∙ on-at)))
+  bare-before : (s : ℕ) → (s ≡ at → ⊥) → Bare (left-of spots k) (live - 1) s → Bare spots live s
+  bare-before s ne bare j l e = ⊎-elim
+      (λ q. let P : ℕ → Type 0 = λ k. spot-at spots k .shelf ≡ s in ne (sym (subst P q e) ∙ on-at))
       (λ q.
-      let m = kept-at spots k n kl j l q in
-      let P : Spot → Type 0 = λ a. a .shelf ≡ s → a .w ≡ 0 in
-      subst P (m .1) (bare (m .0)) e)
-      (cases-eq j k))
-      (λ l. S .few j l)
-      (cases-lt j 256)
+      let m = kept-at spots k n k₁ live (S .few) kl j l q in
+      bare (m .0) (m .1 .0) (ap (λ (a : Spot). a .shelf) (m .1 .1) ∙ e))
+      (cases-eq j k)
 
-  -- other images stay on the shelf
-  pub still-sound : (Bare (left-of spots k) at → ⊥) → Sound width height count shelves (left-of spots k)
-  still-sound not-bare = record {
+  height-same : (s : ℕ) → shelf-at shelves′ s .height ≡ shelf-at shelves s .height
+  height-same = each-shelf (λ s z. z .height ≡ shelf-at shelves s .height) refl (λ _ _. refl)
+
+  top-same : (s : ℕ) → shelf-at shelves′ s .top ≡ shelf-at shelves s .top
+  top-same = each-shelf (λ s z. z .top ≡ shelf-at shelves s .top) refl (λ _ _. refl)
+
+  used-other : (s : ℕ) → (s ≡ at → ⊥) → shelf-at shelves′ s .used ≡ shelf-at shelves s .used
+  used-other s ne = ap (λ (z : Shelf). z .used) (getD-set-other shelves at s _ no-shelf ne)
+
+  used-here : (shelf-at shelves at .images ≡ 1 → ⊥) → shelf-at shelves′ at .used ≡ shelf-at shelves at .used
+  used-here ne = ap (λ (z : Shelf). z .used) (getD-set-same shelves at _ no-shelf al) ∙ eased-more (shelf-at shelves at) ne
+
+  -- a shelf that an image is still on is used as before
+  used-still : (j : ℕ) → j < live - 1 → shelf-at shelves′ (spot-at (left-of spots k) j .shelf) .used ≡ shelf-at shelves (spot-at (left-of spots k) j .shelf) .used
+  used-still j l = ⊎-elim
+      (λ e. let P : ℕ → Type 0 = λ s. shelf-at shelves′ s .used ≡ shelf-at shelves s .used in subst P (sym e) (used-here (λ q. one-bare q j l e)))
+      (used-other (spot-at (left-of spots k) j .shelf))
+      (cases-eq (spot-at (left-of spots k) j .shelf) at)
+
+  used-less : (s : ℕ) → shelf-at shelves′ s .used ≤ shelf-at shelves s .used
+  used-less = each-shelf (λ s z. z .used ≤ shelf-at shelves s .used)
+      (⊎-elim (λ e. omega (arith, eased-one (shelf-at shelves at) e)) (λ ne. omega (arith, eased-more (shelf-at shelves at) ne)) (cases-eq (shelf-at shelves at .images) 1))
+      (λ s _. omega arith)
+
+  over : (s t : ℕ) → Over shelves′ s t → Over shelves s t
+  over s t o = record { upper = o .upper; page = o .page; there = omega (arith, o .there, height-same t) }
+
+  pub loose : Loose (at / 16) width height count shelves′ (left-of spots k) (live - 1)
+  loose = record {
     wide = S .wide;
     high = S .high;
     pages = S .pages;
-    paged = S .paged;
-    inside = S .inside;
-    inner = S .inner;
-    gapless = S .gapless;
-    stacked = S .stacked;
-    placed = each-spot (λ j a. 0 < a .w → (a .x + a .w ≤ shelf-at shelves (a .shelf) .used) × (a .y ≡ shelf-at shelves (a .shelf) .top)) (λ j l. absurd (omega arith)) (λ j _. S .placed (shift k j));
-    upright = each-spot (λ j a. 0 < a .w → (0 < a .h) × (a .h ≤ shelf-at shelves (a .shelf) .height)) (λ j l. absurd (omega arith)) (λ j _. S .upright (shift k j));
-    few = few-left;
-    beside = beside-left;
-    reset = λ s bare. ⊎-elim (λ e. let P : ℕ → Type 0 = Bare (left-of spots k) in absurd (not-bare (subst P e bare))) (λ ne. S .reset s (bare-before s ne bare)) (cases-eq s at);
-    lowest = S .lowest;
-    small = small-left;
-    single = single-left;
+    paged = λ s l. S .paged s (omega (arith, height-same s));
+    inside = λ s l. omega (arith, S .inside s (omega (arith, height-same s)), height-same s, top-same s);
+    inner = λ s. omega (arith, S .inner s, used-less s);
+    gapless = λ s t o. omega (arith, S .gapless s t (over s t o), height-same s);
+    stacked = λ s t o. omega (arith, S .stacked s t (over s t o), height-same s, top-same s, top-same t);
+    few = omega (arith, S .few);
+    sized = each-live (λ j a. (0 < a .w) × (0 < a .h)) (λ j _ l. S .sized (was k j) l);
+    placed = λ j l.
+        let p = each-live (λ j a. (a .x + a .w ≤ shelf-at shelves (a .shelf) .used) × (a .y ≡ shelf-at shelves (a .shelf) .top)) (λ j _ m. S .placed (was k j) m) j l in
+        (omega (arith, p .0, used-still j l), p .1 ∙ sym (top-same (spot-at (left-of spots k) j .shelf)));
+    upright = λ j l.
+        let u = each-live (λ j a. a .h ≤ shelf-at shelves (a .shelf) .height) (λ j _ m. S .upright (was k j) m) j l in
+        omega (arith, u, height-same (spot-at (left-of spots k) j .shelf));
+    beside = λ i j r.
+        each-live (λ i a. (j : ℕ) → j < live - 1 → (i ≡ j → ⊥) → a .shelf ≡ spot-at (left-of spots k) j .shelf → a .x ≤ spot-at (left-of spots k) j .x → a .x + a .w ≤ spot-at (left-of spots k) j .x)
+        (λ i il wi. each-live (λ j b. (i ≡ j → ⊥) → spot-at spots (was k i) .shelf ≡ b .shelf → spot-at spots (was k i) .x ≤ b .x → spot-at spots (was k i) .x + spot-at spots (was k i) .w ≤ b .x)
+        (λ j jl wj ne e m. S .beside (was k i) (was k j) (record { two = λ q. ne (was-one k i j k₁ (omega (arith, S .few)) (omega (arith, S .few)) q); one-live = wi; other-live = wj; same = e; left = m })))
+        i (r .one-live) j (r .other-live) (r .two) (r .same) (r .left);
+    reset = each-shelf (λ s z. Bare (left-of spots k) (live - 1) s → z .used ≡ 0) (λ bare. eased-one (shelf-at shelves at) (bare-one bare)) (λ s ne bare. S .reset s (bare-before s ne bare));
+    counted = each-shelf (λ s z. z .images ≡ count-below (stands-on (left-of spots k) s) (live - 1)) (omega (arith, count-here)) (λ s ne. sym (count-other s ne));
+    lowest = λ s p idle. height-same s ∙ S .lowest s (λ t l e. sym (used-other t (λ q. p (e ∙ ap (λ k. k / 16) q))) ∙ idle t l e);
+    small = each-left spots k n k₁ (λ j a. a .id < 256) (λ j l. S .small (was k j) (was-bound k j k₁ l));
+    single = λ i j r.
+        let I : ℕ → Type 0 = λ m. m ≡ spot-at (left-of spots k) j .id in
+        was-one k i j k₁ (r .one) (r .other) (S .single (was k i) (was k j) (record {
+          one = was-bound k i k₁ (r .one);
+          other = was-bound k j k₁ (r .other);
+          same = sym (ap (λ (a : Spot). a .id) (moved-is spots k n k₁ i (r .one))) ∙ (r .same ∙ ap (λ (a : Spot). a .id) (moved-is spots k n k₁ j (r .other)));
+        }));
   }
 
-  module _ (al : at < length shelves) (bare : Bare (left-of spots k) at) where
-    each-shelf : (P : ℕ → Shelf → Type 0) → P at (emptied (shelf-at shelves at)) → ((k : ℕ) → (k ≡ at → ⊥) → P k (shelf-at shelves k)) → (k : ℕ) → P k (shelf-at (set shelves at (emptied (shelf-at shelves at))) k)
-    each-shelf P = by-row P shelves at (emptied (shelf-at shelves at)) no-shelf al
-
-    pub height-same : (s : ℕ) → shelf-at (set shelves at (emptied (shelf-at shelves at))) s .height ≡ shelf-at shelves s .height
-    height-same = each-shelf (λ s z. z .height ≡ shelf-at shelves s .height) refl (λ _ _. refl)
-
-    pub top-same : (s : ℕ) → shelf-at (set shelves at (emptied (shelf-at shelves at))) s .top ≡ shelf-at shelves s .top
-    top-same = each-shelf (λ s z. z .top ≡ shelf-at shelves s .top) refl (λ _ _. refl)
-
-    pub used-same : (s : ℕ) → (s ≡ at → ⊥) → shelf-at (set shelves at (emptied (shelf-at shelves at))) s .used ≡ shelf-at shelves s .used
-    used-same s ne = ap (λ (z : Shelf). z .used) (getD-set-other shelves at s _ no-shelf ne)
-
-    over : (s t : ℕ) → Over (set shelves at (emptied (shelf-at shelves at))) s t → Over shelves s t
-    over s t o = record { upper = o .upper; page = o .page; there = omega (arith, o .there, height-same t) }
-
-    -- no live image is on it any more
-    elsewhere : (j : ℕ) → j < 255 → 0 < spot-at spots (shift k j) .w → spot-at spots (shift k j) .shelf ≡ at → ⊥
-    elsewhere j jl l e =
-        let P : Spot → Type 0 = λ a. a .shelf ≡ at → a .w ≡ 0 in
-        let z : spot-at spots (shift k j) .w ≡ 0 = subst P (moved-is spots k n kl j jl) (bare j) e in
-        omega arith
-
-    pub loose : Loose (at / 16) width height count (set shelves at (emptied (shelf-at shelves at))) (left-of spots k)
-    loose = record {
-      wide = S .wide;
-      high = S .high;
-      pages = S .pages;
-      paged = each-shelf (λ s z. 0 < z .height → s < 16 * count) (S .paged at) (λ s _. S .paged s);
-      inside = each-shelf (λ s z. 0 < z .height → z .top + z .height ≤ height) (S .inside at) (λ s _. S .inside s);
-      inner = each-shelf (λ s z. z .used ≤ width) (omega arith) (λ s _. S .inner s);
-      gapless = λ s t o. omega (arith, S .gapless s t (over s t o), height-same s);
-      stacked = λ s t o. omega (arith, S .stacked s t (over s t o), height-same s, top-same s, top-same t);
-      placed = each-spot (λ j a. 0 < a .w → (a .x + a .w ≤ shelf-at (set shelves at (emptied (shelf-at shelves at))) (a .shelf) .used) × (a .y ≡ shelf-at (set shelves at (emptied (shelf-at shelves at))) (a .shelf) .top))
-          (λ j l. absurd (omega arith))
-          (λ j jl l. let P : Shelf → Type 0 = λ z. (spot-at spots (shift k j) .x + spot-at spots (shift k j) .w ≤ z .used) × (spot-at spots (shift k j) .y ≡ z .top) in
-          subst P (sym (getD-set-other shelves at (spot-at spots (shift k j) .shelf) (emptied (shelf-at shelves at)) no-shelf (elsewhere j jl l))) (S .placed (shift k j) l));
-      upright = each-spot (λ j a. 0 < a .w → (0 < a .h) × (a .h ≤ shelf-at (set shelves at (emptied (shelf-at shelves at))) (a .shelf) .height))
-          (λ j l. absurd (omega arith))
-          (λ j jl l. let P : Shelf → Type 0 = λ z. (0 < spot-at spots (shift k j) .h) × (spot-at spots (shift k j) .h ≤ z .height) in
-          subst P (sym (getD-set-other shelves at (spot-at spots (shift k j) .shelf) (emptied (shelf-at shelves at)) no-shelf (elsewhere j jl l))) (S .upright (shift k j) l));
-      few = few-left;
-      beside = beside-left;
-      reset = each-shelf (λ s z. Bare (left-of spots k) s → z .used ≡ 0) (λ _. refl) (λ s ne b. S .reset s (bare-before s ne b));
-      lowest = λ s p idle. height-same s ∙ S .lowest s (λ t l e. sym (used-same t (λ q. p (e ∙ ap (λ k. k / 16) q))) ∙ idle t l e);
-      small = small-left;
-      single = single-left;
+  module _ (after : List Shelf) (L : Lowered (at / 16) shelves′ after) (S′ : Sound width height count after (left-of spots k) (live - 1)) where
+    pub settled : Settled shelves at after (left-of spots k) (live - 1)
+    settled = record {
+      tops = λ s. L .tops s ∙ top-same s;
+      others-used = λ s ne. L .useds s ∙ used-other s ne;
+      still-used = λ no-bare. L .useds at ∙ used-here (λ e. no-bare (one-bare e));
+      left-again = S′ .reset at;
+      heights = λ s. ⊎-elim
+          (λ e. inl (e ∙ height-same s))
+          (λ g. inr (g .0, λ t l e. L .useds t ∙ g .1 .1 t l e))
+          (L .heights s);
+      none-lowest = S′ .lowest;
     }
 
 -- with the empty lowest shelves of that page gone, all is sound
-pub lowered-sound : (page width height count : ℕ) (before after : List Shelf) (spots : List Spot) → Loose page width height count before spots → Lowered page before after → Sound width height count after spots
-lowered-sound page width height count before after spots S L = record {
+pub lowered-sound : (page width height count : ℕ) (before after : List Shelf) (spots : List Spot) (live : ℕ) → Loose page width height count before spots live → Lowered page before after → Sound width height count after spots live
+lowered-sound page width height count before after spots live S L = record {
   wide = S .wide;
   high = S .high;
   pages = S .pages;
@@ -165,22 +184,25 @@ lowered-sound page width height count before after spots S L = record {
       (λ g. let z = L .gone t (sym (o .page) ∙ g .1 .0) (λ u a p. g .1 .1 u (omega (arith, o .upper)) (o .page ∙ p)) in absurd (omega (arith, o .there)))
       (L .heights s);
   stacked = λ s t o. omega (arith, S .stacked s t (over s t o), lower s, L .tops s, L .tops t);
+  few = S .few;
+  sized = S .sized;
   placed = λ j l. let p = S .placed j l in (omega (arith, p, L .useds (spot-at spots j .shelf)), p .1 ∙ sym (L .tops (spot-at spots j .shelf)));
   upright = λ j l.
       let u = S .upright j l in
       let p = S .placed j l in
-      (u .0, ⊎-elim (λ e. omega arith) (λ g. let z = g .1 .1 (spot-at spots j .shelf) (omega arith) refl in absurd (omega arith)) (L .heights (spot-at spots j .shelf)));
-  few = S .few;
+      let b = S .sized j l in
+      ⊎-elim (λ e. omega arith) (λ g. let z = g .1 .1 (spot-at spots j .shelf) (omega arith) refl in absurd (omega arith)) (L .heights (spot-at spots j .shelf));
   beside = S .beside;
-  small = S .small;
-  single = S .single;
   reset = λ s b. L .useds s ∙ S .reset s b;
+  counted = λ s. L .counts s ∙ S .counted s;
   lowest = λ s idle.
       let before-idle : Idle before s = λ t l e. sym (L .useds t) ∙ idle t l e in
       ⊎-elim
       (λ e. L .gone s e before-idle)
       (λ ne. ⊎-elim (λ e. e ∙ S .lowest s ne before-idle) (λ g. g .0) (L .heights s))
       (cases-eq (s / 16) page);
+  small = S .small;
+  single = S .single;
 }
   where
     lower : (s : ℕ) → shelf-at after s .height ≤ shelf-at before s .height
@@ -191,30 +213,3 @@ lowered-sound page width height count before after spots S L = record {
 
     over : (s t : ℕ) → Over after s t → Over before s t
     over s t o = record { upper = o .upper; page = o .page; there = taller t (o .there) }
-
--- the image leaves a shelf that is bare then
-pub emptied-sound : (width height count : ℕ) (shelves : List Shelf) (spots : List Spot) (S : Sound width height count shelves spots) (k : ℕ) (n : length spots ≡ 256) (kl : k < 256) (al : spot-at spots k .shelf < length shelves)
-    (bare : Bare (left-of spots k) (spot-at spots k .shelf)) (after : List Shelf) → Lowered (spot-at spots k .shelf / 16) (set shelves (spot-at spots k .shelf) (emptied (shelf-at shelves (spot-at spots k .shelf)))) after
-    → Sound width height count after (left-of spots k)
-emptied-sound width height count shelves spots S k n kl al bare after L =
-    lowered-sound (spot-at spots k .shelf / 16) width height count _ after (left-of spots k) (loose width height count shelves spots S k n kl (spot-at spots k .shelf) refl al bare) L
-
-pub settled-still : (width height count : ℕ) (shelves : List Shelf) (left : List Spot) (at : ℕ) → Sound width height count shelves left → Settled shelves at shelves left
-settled-still width height count shelves left at S = record
-    { tops = λ s. refl; others-used = λ s _. refl; still-used = λ _. refl; left-again = S .reset at; heights = λ s. inl refl; vanished = S .lowest }
-
-pub settled-lower : (width height count : ℕ) (shelves after : List Shelf) (left : List Spot) (at : ℕ) → at < length shelves → Bare left at
-    → Lowered (at / 16) (set shelves at (emptied (shelf-at shelves at))) after → Sound width height count after left → Settled shelves at after left
-settled-lower width height count shelves after left at al bare L S =
-    let each = λ (P : ℕ → Shelf → Type 0). by-row P shelves at (emptied (shelf-at shelves at)) no-shelf al in
-    record {
-      tops = λ s. L .tops s ∙ each (λ s z. z .top ≡ shelf-at shelves s .top) refl (λ _ _. refl) s;
-      others-used = λ s ne. L .useds s ∙ ap (λ (z : Shelf). z .used) (getD-set-other shelves at s (emptied (shelf-at shelves at)) no-shelf ne);
-      still-used = λ no-bare. absurd (no-bare bare);
-      left-again = S .reset at;
-      heights = λ s. ⊎-elim
-          (λ e. inl (e ∙ each (λ s z. z .height ≡ shelf-at shelves s .height) refl (λ _ _. refl) s))
-          (λ g. inr (g .0, λ t l e. L .useds t ∙ g .1 .1 t l e))
-          (L .heights s);
-      vanished = S .lowest;
-    }

@@ -1,14 +1,13 @@
--- Sound shelves are a lawful image cache.
+-- Sound shelves are a lawful image cache: the laws follow from Sound alone.
 use mathlib.Core.Path.{_≡_, refl, sym, ap, subst, _∙_}
-use mathlib.Core.Bool.{Bool, true, false, not, cond, _&&_, _||_}
-use mathlib.Core.List.{List, [], _∷_}
+use mathlib.Core.Bool.{Bool, true, false, _&&_}
+use mathlib.Core.List.{List}
 use mathlib.Core.Logic.{_⊎_, inl, inr, ⊎-elim}
-use Prim.Native.Nat.{ℕ, _+_, _-_, _*_, _/_, _%_, _^_, _≤_, _<_, suc, zero}
+use Prim.Native.Nat.{ℕ, _+_, _*_, _/_, _^_, _≤_, _<_}
 use native.Mathlib.Omega.{arith}
-use lib.Dec.{eqb, ltb, leb, lit<}
-use lib.ListN.{length, getD, set}
-use Rattle.std.specs.Options.{isSome, mapped}
-use Rattle.std.proofs.shelf.Tests.{cases-eq, cases-lt, cases-bool, ltb-true, ltb-false, lt-ltb, lt-leb, le-ltb, le-leb, eq-eqb, and-from, and-left, and-right}
+use lib.Dec.{ltb, leb, lit<}
+use Rattle.std.specs.Options.{isSome}
+use Rattle.std.proofs.shelf.Tests.{cases-eq, cases-lt, lt-ltb, lt-leb, le-leb, eq-eqb, and-from, and-left, and-right}
 use Rattle.std.specs.declared.option.Option.{Option}
 use Rattle.std.specs.declared.option.Option.the-variants.{None, Some}
 use Rattle.image_cache.specs.Caches.{Cache, Pixel, In, Inside, Lawful}
@@ -17,16 +16,15 @@ use Rattle.shelf_cache.specs.declared.shelf.Shelf.{Shelf}
 use Rattle.shelf_cache.specs.declared.shelf.Spot.{Spot}
 use Rattle.shelf_cache.specs.Rows.{shelf-at, spot-at}
 use Rattle.shelf_cache.specs.Sound.{Sound, Over, Row}
-use Rattle.shelf_cache.specs.Places.{or-else, takes-at, opens-at, size-fits, old-place, new-place, place-of, is-live, live-count, image-of, live-of, cache-of}
-use Rattle.shelf_cache.proofs.First.{count-less}
-use Rattle.shelf_cache.proofs.Names.{has-is, live-is, not-live-is}
+use Rattle.shelf_cache.specs.Places.{takes-at, opens-at, image-of, live-of, cache-of}
+use Rattle.shelf_cache.proofs.Names.{live-is, not-live-is}
 use Rattle.shelf_cache.proofs.Placing.{sized, place-both, place-none}
 
-module _ (width height count : ℕ) (shelves : List Shelf) (spots : List Spot) (S : Sound width height count shelves spots) where
-  there : (i : ℕ) → 0 < spot-at spots i .w → 0 < shelf-at shelves (spot-at spots i .shelf) .height
-  there i l = let u = S .upright i l in omega arith
+module _ (width height count : ℕ) (shelves : List Shelf) (spots : List Spot) (live : ℕ) (S : Sound width height count shelves spots live) where
+  pub there : (i : ℕ) → i < live → 0 < shelf-at shelves (spot-at spots i .shelf) .height
+  there i l = let u = S .upright i l in let z = S .sized i l in omega arith
 
-  image-inside : (i : ℕ) → 0 < spot-at spots i .w → Inside (cache-of width height count shelves spots) (image-of (spot-at spots i))
+  image-inside : (i : ℕ) → i < live → Inside (cache-of width height count shelves spots live) (image-of (spot-at spots i))
   image-inside i l =
       let p = S .placed i l in
       let u = S .upright i l in
@@ -37,7 +35,7 @@ module _ (width height count : ℕ) (shelves : List Shelf) (spots : List Spot) (
         bottom = omega (arith, S .inside s (there i l));
       }
 
-  images-apart : (i j : ℕ) → (i ≡ j → ⊥) → 0 < spot-at spots i .w → 0 < spot-at spots j .w → (z : Pixel) → In z (image-of (spot-at spots i)) → In z (image-of (spot-at spots j)) → ⊥
+  images-apart : (i j : ℕ) → (i ≡ j → ⊥) → i < live → j < live → (z : Pixel) → In z (image-of (spot-at spots i)) → In z (image-of (spot-at spots j)) → ⊥
   images-apart i j ne li lj z a b =
       let s : ℕ = spot-at spots i .shelf in
       let t : ℕ = spot-at spots j .shelf in
@@ -59,14 +57,14 @@ module _ (width height count : ℕ) (shelves : List Shelf) (spots : List Spot) (
       (cases-eq (s / 16) (t / 16)))
       (cases-eq s t)
 
-  all-dead : ((i : ℕ) → live-of spots i ≡ None) → (j : ℕ) → spot-at spots j .w ≡ 0
-  all-dead none j = ⊎-elim (λ l. absurd (not-live-is spots (S .few) (spot-at spots j .id) (none (spot-at spots j .id)) j l refl)) (λ l. omega arith) (cases-lt 0 (spot-at spots j .w))
+  none-live : ((i : ℕ) → live-of spots live i ≡ None) → live ≡ 0
+  none-live none = ⊎-elim (λ l. absurd (not-live-is spots live (spot-at spots 0 .id) (none (spot-at spots 0 .id)) 0 l refl)) (λ l. omega arith) (cases-lt 0 live)
 
   -- with no image live there are no shelves
-  pub no-shelves : ((i : ℕ) → live-of spots i ≡ None) → (s : ℕ) → shelf-at shelves s .height ≡ 0
-  no-shelves none s = S .lowest s (λ t _ _. S .reset t (λ j _. all-dead none j))
+  no-shelves : ((i : ℕ) → live-of spots live i ≡ None) → (s : ℕ) → shelf-at shelves s .height ≡ 0
+  no-shelves none s = let z = none-live none in S .lowest s (λ t _ _. S .reset t (λ j l _. omega arith))
 
-  fits-when-empty : ((i : ℕ) → live-of spots i ≡ None) → (w h : ℕ) → 0 < w → w ≤ width → 0 < h → h ≤ height → cache-of width height count shelves spots .fits w h ≡ true
+  fits-when-empty : ((i : ℕ) → live-of spots live i ≡ None) → (w h : ℕ) → 0 < w → w ≤ width → 0 < h → h ≤ height → cache-of width height count shelves spots live .fits w h ≡ true
   fits-when-empty none w h w₀ w₁ h₀ h₁ =
       let gone = no-shelves none in
       let z = sized width height w h w₀ w₁ h₀ h₁ in
@@ -74,31 +72,27 @@ module _ (width height count : ℕ) (shelves : List Shelf) (spots : List Spot) (
       let o : opens-at count height h shelves 0 ≡ true =
       and-from _ _ (lt-ltb 0 (16 * count) (omega (arith, S .pages))) (and-from _ _ (eq-eqb (shelf-at shelves 0 .height) 0 (gone 0)) (le-leb (0 + h) height (omega arith))) in
       let e = place-both width height count shelves w h None (Some 0) z f (omega arith, o, λ k l. absurd (omega arith)) in
-      let dead = all-dead none 0 in
-      let c = lt-ltb (live-count spots) 256 (count-less (is-live spots) 256 0 (omega arith) (le-ltb 0 (spot-at spots 0 .w) (omega arith))) in
-      and-from _ _ c (ap isSome e)
+      and-from _ _ (lt-ltb live 256 (omega (arith, none-live none))) (ap isSome e)
 
-  pub lawful : Lawful (cache-of width height count shelves spots)
+  pub lawful : Lawful (cache-of width height count shelves spots live)
   lawful = record {
     limits = record { width = S .wide; height = S .high; count = S .pages; largest = (S .wide .0, S .high .0) };
+    named = λ i a h. let f = live-is spots live i a h in ap (λ (x : Image). x .id) (f .1 .1 .1) ∙ f .1 .1 .0;
     ids = λ i a h.
-        let f = live-is spots (S .few) i a h in
+        let f = live-is spots live i a h in
         let p : 256 < 2 ^ 32 = lit< tt in
-        omega (arith, has-is spots i (f .0) (f .1 .0) .1, S .small (f .0));
-    named = λ i a h. let f = live-is spots (S .few) i a h in ap (λ (x : Image). x .id) (f .1 .1) ∙ has-is spots i (f .0) (f .1 .0) .1;
+        omega (arith, f .1 .0, f .1 .1 .0, S .few, S .small (f .0) (omega (arith, f .1 .0, S .few)));
     inside = λ i a h.
-        let f = live-is spots (S .few) i a h in
-        let P : Image → Type 0 = Inside (cache-of width height count shelves spots) in
-        subst P (sym (f .1 .1)) (image-inside (f .0) (has-is spots i (f .0) (f .1 .0) .0));
+        let f = live-is spots live i a h in
+        let P : Image → Type 0 = Inside (cache-of width height count shelves spots live) in
+        subst P (sym (f .1 .1 .1)) (image-inside (f .0) (f .1 .0));
     apart = λ i j a b h k ne z.
-        let f = live-is spots (S .few) i a h in
-        let g = live-is spots (S .few) j b k in
-        let p = has-is spots i (f .0) (f .1 .0) in
-        let q = has-is spots j (g .0) (g .1 .0) in
+        let f = live-is spots live i a h in
+        let g = live-is spots live j b k in
         let P : Image → Type 0 = λ x. In z x → In z b → ⊥ in
         let Q : Image → Type 0 = λ x. In z (image-of (spot-at spots (f .0))) → In z x → ⊥ in
-        subst P (sym (f .1 .1)) (subst Q (sym (g .1 .1)) (images-apart (f .0) (g .0) (λ e. ne (sym (p .1) ∙ (ap (λ n. spot-at spots n .id) e ∙ q .1))) (p .0) (q .0) z));
-    none-wide = λ h. and-right (ltb (live-count spots) 256) false refl;
-    none-high = λ w. and-right (ltb (live-count spots) 256) _ (ap isSome (place-none width height count shelves w 0 (and-right (ltb 0 w && leb w width) false refl)));
+        subst P (sym (f .1 .1 .1)) (subst Q (sym (g .1 .1 .1)) (images-apart (f .0) (g .0) (λ e. ne (sym (f .1 .1 .0) ∙ (ap (λ n. spot-at spots n .id) e ∙ g .1 .1 .0))) (f .1 .0) (g .1 .0) z));
+    none-wide = λ h. and-right (ltb live 256) false refl;
+    none-high = λ w. and-right (ltb live 256) _ (ap isSome (place-none width height count shelves w 0 (and-right (ltb 0 w && leb w width) false refl)));
     empty-fits = fits-when-empty;
   }

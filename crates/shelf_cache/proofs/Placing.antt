@@ -11,7 +11,8 @@ use Rattle.std.specs.declared.option.Option.{Option}
 use Rattle.std.specs.declared.option.Option.the-variants.{None, Some}
 use Rattle.shelf_cache.specs.declared.shelf.Shelf.{Shelf}
 use Rattle.shelf_cache.specs.declared.shelf.Place.{Place}
-use Rattle.shelf_cache.specs.Places.{or-else, first-below, FirstBelow, takes-at, opens-at, size-fits, old-place, new-place, place-of, Fit}
+use Rattle.shelf_cache.specs.Rows.{or-else, first-below, FirstBelow}
+use Rattle.shelf_cache.specs.Places.{takes-at, opens-at, size-fits, old-place, new-place, place-of, Fit}
 use Rattle.shelf_cache.specs.Sound.{Gapless}
 use Rattle.shelf_cache.proofs.First.{first-is}
 use Rattle.shelf_cache.proofs.Rooms.{first-page}

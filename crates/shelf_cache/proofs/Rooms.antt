@@ -1,4 +1,4 @@
--- The first place that opens is on the first page with room.
+-- The first place that opens is below the last shelf of the first page with room.
 use mathlib.Core.Path.{_≡_, refl, sym, ap, subst, _∙_}
 use mathlib.Core.Bool.{Bool, true, false, cond, _&&_, _||_}
 use mathlib.Core.List.{List}
@@ -20,31 +20,43 @@ end-same shelves s (suc k) e =
     ap (λ b. cond b 0 (shelf-at shelves (s - 1) .top + shelf-at shelves (s - 1) .height)) (ne-eqb (s % 16) 0 (λ z. omega arith))
     ∙ ap (λ n. shelf-at shelves n .top + shelf-at shelves n .height) q
 
+-- what the test of a place says
+pub record Opens (count height h : ℕ) (shelves : List Shelf) (s : ℕ) : Type 0 where
+  pub paged : s < 16 * count
+  pub gone : shelf-at shelves s .height ≡ 0
+  pub next : (k : ℕ) → k < s → k / 16 ≡ s / 16 → 0 < shelf-at shelves (s - 1) .height
+  pub left : end-above shelves s + h ≤ height
+
+pub opens-is : (count height h : ℕ) (shelves : List Shelf) (s : ℕ) → opens-at count height h shelves s ≡ true → Opens count height h shelves s
+opens-is count height h shelves s t =
+    let a = and-parts (ltb s (16 * count)) _ t in
+    let b = and-parts (eqb (shelf-at shelves s .height) 0) _ (a .1) in
+    let d = and-parts (eqb (s % 16) 0 || ltb 0 (shelf-at shelves (s - 1) .height)) _ (b .1) in
+    record {
+      paged = ltb-true _ _ (a .0);
+      gone = eqb-true _ _ (b .0);
+      next = λ k l e. ⊎-elim (λ q. let z : s % 16 ≡ 0 = eqb-true _ _ q in absurd (omega arith)) (λ q. ltb-true _ _ q) (or-cases _ _ (d .0));
+      left = leb-true _ _ (d .1);
+    }
+
 module _ (count height h : ℕ) (shelves : List Shelf) (G : Gapless shelves) where
   -- above a place that opens there are shelves
-  pub above-open : (s : ℕ) → opens-at count height h shelves s ≡ true → (k : ℕ) → k < s → k / 16 ≡ s / 16 → 0 < shelf-at shelves k .height
-  above-open s t k l e =
-      let a = and-parts (ltb s (16 * count)) _ t in
-      let b = and-parts (eqb (shelf-at shelves s .height) 0) _ (a .1) in
-      let d = and-parts (eqb (s % 16) 0 || ltb 0 (shelf-at shelves (s - 1) .height)) _ (b .1) in
-      let next : 0 < shelf-at shelves (s - 1) .height = ⊎-elim (λ q. let z : s % 16 ≡ 0 = eqb-true _ _ q in absurd (omega arith)) (λ q. ltb-true _ _ q) (or-cases _ _ (d .0)) in
+  pub above-open : (s : ℕ) → Opens count height h shelves s → (k : ℕ) → k < s → k / 16 ≡ s / 16 → 0 < shelf-at shelves k .height
+  above-open s o k l e =
       ⊎-elim
-      (λ m. G k (s - 1) (record { upper = m; page = omega arith; there = next }))
-      (λ m. let q : s - 1 ≡ k = omega arith in let P : ℕ → Type 0 = λ j. 0 < shelf-at shelves j .height in subst P q next)
+      (λ m. G k (s - 1) (record { upper = m; page = omega arith; there = o .next k l e }))
+      (λ m. let q : s - 1 ≡ k = omega arith in let P : ℕ → Type 0 = λ j. 0 < shelf-at shelves j .height in subst P q (o .next k l e))
       (cases-lt k (s - 1))
 
-  room-of : (s : ℕ) → opens-at count height h shelves s ≡ true → RoomOn count height h shelves (s / 16) (s % 16)
-  room-of s t =
-      let a = and-parts (ltb s (16 * count)) _ t in
-      let b = and-parts (eqb (shelf-at shelves s .height) 0) _ (a .1) in
-      let d = and-parts (eqb (s % 16) 0 || ltb 0 (shelf-at shelves (s - 1) .height)) _ (b .1) in
-      let low : s < 16 * count = ltb-true _ _ (a .0) in
-      let gone : shelf-at shelves s .height ≡ 0 = eqb-true _ _ (b .0) in
+  room-of : (s : ℕ) → Opens count height h shelves s → RoomOn count height h shelves (s / 16) (s % 16)
+  room-of s o =
+      let low = o .paged in
+      let gone = o .gone in
       let P : ℕ → Type 0 = λ n. n + h ≤ height in
       record {
         there = omega arith;
         under = omega arith;
-        standing = λ k l. above-open s t (16 * (s / 16) + k) (omega arith) (omega arith);
+        standing = λ k l. above-open s o (16 * (s / 16) + k) (omega arith) (omega arith);
         no-more = λ k l m. ⊎-elim
             (λ q. let e : 16 * (s / 16) + k ≡ s = omega arith in ap (λ n. shelf-at shelves n .height) e ∙ gone)
             (λ q. ⊎-elim
@@ -52,7 +64,7 @@ module _ (count height h : ℕ) (shelves : List Shelf) (G : Gapless shelves) whe
             (λ z. omega arith)
             (cases-lt 0 (shelf-at shelves (16 * (s / 16) + k) .height)))
             (cases-eq k (s % 16));
-        left = subst P (end-same shelves s (s % 16) refl) (leb-true _ _ (d .1));
+        left = subst P (end-same shelves s (s % 16) refl) (o .left);
       }
 
   room-opens : (q n : ℕ) → RoomOn count height h shelves q n → opens-at count height h shelves (16 * q + n) ≡ true
@@ -73,7 +85,7 @@ module _ (count height h : ℕ) (shelves : List Shelf) (G : Gapless shelves) whe
 
   pub first-page : (s : ℕ) → opens-at count height h shelves s ≡ true → ((t : ℕ) → t < s → opens-at count height h shelves t ≡ false) → FirstPage count height h shelves s
   first-page s t none = record {
-    room = room-of s t;
+    room = room-of s (opens-is count height h shelves s t);
     below = end-same shelves s (s % 16) refl;
     none-earlier = λ q n l r. both-ways (opens-at count height h shelves (16 * q + n)) (none (16 * q + n) (omega (arith, r .under))) (room-opens q n r);
   }

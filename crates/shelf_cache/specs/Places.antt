@@ -1,7 +1,15 @@
--- Where an image goes: on the first shelf that takes it, else on a new shelf of the first page with room.
+-- Where an image goes and what it leaves: on the first shelf that takes it, else on a new shelf of the first page with room. Assumes nothing.
+--     takes width w h s       the shelf s is tall enough, and has w left at its right end
+--     opens-at .. s           a new shelf of height h can be opened at the place s
+--     Choice                  the first shelf that takes the image, else the first place for a new one
+--     Fit .. p                p is where the image goes, by the rules above
+--     shelf-cache g           what the shelves g mean as an image cache
+--     PutAt g w h i d         an image of w by h stands where it goes, and no other shelf changes: g before, d after
+--     LeftBy g i d            the shelf that the image i left, and all others: g before, d after
+--     Opened width height count r    new shelves, or the refusal of the sizes
 use Prim.Native.Nat.{ℕ, zero, suc, _+_, _-_, _*_, _/_, _%_, _≤_, _<_}
 use mathlib.Core.Path.{_≡_}
-use mathlib.Core.Bool.{Bool, true, false, not, cond, _&&_, _||_}
+use mathlib.Core.Bool.{Bool, true, false, cond, _&&_, _||_}
 use mathlib.Core.List.{List}
 use mathlib.Core.Logic.{_⊎_}
 use lib.Dec.{eqb, ltb, leb}
@@ -11,38 +19,20 @@ use Rattle.std.specs.declared.option.Option.{Option}
 use Rattle.std.specs.declared.option.Option.the-variants.{None, Some}
 use Rattle.std.specs.declared.result.Result.{Result}
 use Rattle.std.specs.declared.result.Result.the-variants.{Ok, Err}
+use Rattle.lists.specs.Lists.{closed-up}
 use Rattle.image_cache.specs.Caches.{Cache}
 use Rattle.image_cache.specs.declared.image.Image.{Image}
+use Rattle.image_cache.specs.declared.image.CacheFault.{CacheFault}
+use Rattle.image_cache.specs.declared.image.CacheFault.the-variants.{Sizes}
 use Rattle.shelf_cache.specs.declared.shelf.Shelf.{Shelf}
 use Rattle.shelf_cache.specs.declared.shelf.Spot.{Spot}
 use Rattle.shelf_cache.specs.declared.shelf.Place.{Place}
+use Rattle.shelf_cache.specs.declared.shelf.Choice.{Choice}
+use Rattle.shelf_cache.specs.declared.shelf.Choice.the-variants.{Old, New, Nowhere}
 use Rattle.shelf_cache.specs.declared.shelves.Shelves.{Shelves}
-use Rattle.lists.specs.Lists.{closed-up}
-use Rattle.shelf_cache.specs.Rows.{no-spot, shelf-at, spot-at}
-use Rattle.image_cache.specs.declared.image.CacheFault.{CacheFault}
-use Rattle.image_cache.specs.declared.image.CacheFault.the-variants.{Sizes}
+use Rattle.shelf_cache.specs.Rows.{shelf-at, spot-at, or-else, first-below, FirstBelow}
 use Rattle.shelf_cache.specs.Sound.{Side, Pages, Bare, Idle}
 
--- the first number below n that passes
-abbrev pub or-else : {X : Type 0} → Option X → Option X → Option X
-or-else None b = b
-or-else (Some x) b = Some x
-
-unfoldable pub first-below : (ℕ → Bool) → ℕ → Option ℕ
-first-below p zero = None
-first-below p (suc n) = or-else (first-below p n) (cond (p n) (Some n) None)
-
--- how many numbers below n pass
-unfoldable pub count-below : (ℕ → Bool) → ℕ → ℕ
-count-below p zero = 0
-count-below p (suc n) = count-below p n + cond (p n) 1 0
-
--- the same by what is true of it
-abbrev pub FirstBelow : (ℕ → Bool) → ℕ → Option ℕ → Type 0
-FirstBelow p n None = (k : ℕ) → k < n → p k ≡ false
-FirstBelow p n (Some i) = (i < n) × (p i ≡ true) × ((k : ℕ) → k < i → p k ≡ false)
-
--- tall enough, and w left at its right end
 abbrev pub takes : ℕ → ℕ → ℕ → Shelf → Bool
 takes width w h s = leb h (s .height) && leb (s .used + w) width
 
@@ -61,11 +51,17 @@ opens-at count height h shelves s =
 abbrev pub size-fits : ℕ → ℕ → ℕ → ℕ → Bool
 size-fits width height w h = (ltb 0 w && leb w width) && (ltb 0 h && leb h height)
 
+-- what one pass over n places finds: the first that takes, else the first that opens
+abbrev pub Chosen : (ℕ → Bool) → (ℕ → Bool) → ℕ → Choice → Type 0
+Chosen taking opening n (Old s) = FirstBelow taking n (Some s)
+Chosen taking opening n (New s) = FirstBelow taking n None × FirstBelow opening n (Some s)
+Chosen taking opening n Nowhere = FirstBelow taking n None × FirstBelow opening n None
+
 abbrev pub old-place : List Shelf → ℕ → Place
 old-place shelves s = record { at = s; shelf = shelf-at shelves s }
 
 abbrev pub new-place : List Shelf → ℕ → ℕ → Place
-new-place shelves h s = record { at = s; shelf = record { top = end-above shelves s; height = h; used = 0 } }
+new-place shelves h s = record { at = s; shelf = record { top = end-above shelves s; height = h; used = 0; images = 0 } }
 
 abbrev pub place-of : ℕ → ℕ → ℕ → List Shelf → ℕ → ℕ → Option Place
 place-of width height count shelves w h =
@@ -111,45 +107,38 @@ pub record Fit (width height count : ℕ) (shelves : List Shelf) (w h : ℕ) (p 
   pub there : p .at < 64
   pub chosen : FirstTaking width w h shelves p ⊎ FirstOpened width height count w h shelves p
 
-abbrev pub is-live : List Spot → ℕ → Bool
-is-live spots i = ltb 0 (spot-at spots i .w)
-
-abbrev pub live-count : List Spot → ℕ
-live-count spots = count-below (is-live spots) 256
-
 abbrev pub image-of : Spot → Image
 image-of a = record { id = a .id; page = a .shelf / 16; x = a .x; y = a .y; w = a .w; h = a .h }
 
--- the image at that place is live and has that id
+-- the spot at that place has that id
 abbrev pub has-at : List Spot → ℕ → ℕ → Bool
-has-at spots i j = is-live spots j && eqb (spot-at spots j .id) i
+has-at spots i j = eqb (spot-at spots j .id) i
 
-abbrev pub is-named : List Spot → ℕ → Bool
-is-named spots i = isSome (first-below (has-at spots i) 256)
+-- the image with that id, among the first `live` spots
+abbrev pub live-of : List Spot → ℕ → ℕ → Option Image
+live-of spots live i = mapped (λ j. image-of (spot-at spots j)) (first-below (has-at spots i) live)
 
-abbrev pub live-of : List Spot → ℕ → Option Image
-live-of spots i = mapped (λ j. image-of (spot-at spots j)) (first-below (has-at spots i) 256)
-
-abbrev pub cache-of : ℕ → ℕ → ℕ → List Shelf → List Spot → Cache
-cache-of width height count shelves spots = record {
+-- an image fits where a spot is free and a shelf takes it or opens for it
+abbrev pub cache-of : ℕ → ℕ → ℕ → List Shelf → List Spot → ℕ → Cache
+cache-of width height count shelves spots live = record {
   page-width = width;
   page-height = height;
   page-count = count;
   largest-width = width;
   largest-height = height;
-  live = live-of spots;
-  fits = λ w h. ltb (live-count spots) 256 && isSome (place-of width height count shelves w h);
+  live = live-of spots live;
+  fits = λ w h. ltb live 256 && isSome (place-of width height count shelves w h);
 }
 
 abbrev pub shelf-cache : Shelves → Cache
-shelf-cache g = cache-of (g .width) (g .height) (g .count) (g .shelves) (g .spots)
+shelf-cache g = cache-of (g .width) (g .height) (g .count) (g .shelves) (g .spots) (g .live)
 
 abbrev pub place-for : Shelves → ℕ → ℕ → Option Place
 place-for g w h = place-of (g .width) (g .height) (g .count) (g .shelves) w h
 
--- the shelf with the image on it, and the image
-abbrev pub filled : Place → ℕ → Shelf
-filled p w = record { top = p .shelf .top; height = p .shelf .height; used = p .shelf .used + w }
+-- the shelf with one image more at its right end, and that image
+abbrev pub filled : Shelf → ℕ → Shelf
+filled z w = record { top = z .top; height = z .height; used = z .used + w; images = z .images + 1 }
 
 abbrev pub put-on : ℕ → Place → ℕ → ℕ → Spot
 put-on i p w h = record { id = i; shelf = p .at; x = p .shelf .used; y = p .shelf .top; w = w; h = h }
@@ -159,24 +148,32 @@ pub record PutAt (g : Shelves) (w h i : ℕ) (d : Shelves) : Type 0 where
   pub place : Place
   pub chosen : place-for g w h ≡ Some place
   pub fit : Fit (g .width) (g .height) (g .count) (g .shelves) w h place
-  pub image : live-of (d .spots) i ≡ Some (image-of (put-on i place w h))
-  pub shelves : d .shelves ≡ set (g .shelves) (place .at) (filled place w)
+  pub image : live-of (d .spots) (d .live) i ≡ Some (image-of (put-on i place w h))
+  pub shelves : d .shelves ≡ set (g .shelves) (place .at) (filled (place .shelf) w)
 
--- the shelf that an image left: used from its left only when no image is left on it. No other shelf changes, but that the empty lowest ones vanish
-pub record Settled (before : List Shelf) (at : ℕ) (after : List Shelf) (left : List Spot) : Type 0 where
+-- the shelf with one image less: with none left it starts from its left again
+abbrev pub eased : Shelf → Shelf
+eased z = record { top = z .top; height = z .height; used = cond (eqb (z .images) 1) 0 (z .used); images = z .images - 1 }
+
+-- the shelf is not there any more
+abbrev pub vanished : Shelf → Shelf
+vanished z = record { top = z .top; height = 0; used = z .used; images = z .images }
+
+-- The shelf that an image left: used from its left only when no image is left on it. No other shelf changes, but that the empty lowest ones vanish.
+pub record Settled (before : List Shelf) (at : ℕ) (after : List Shelf) (left : List Spot) (live : ℕ) : Type 0 where
   pub tops : (s : ℕ) → shelf-at after s .top ≡ shelf-at before s .top
   pub others-used : (s : ℕ) → (s ≡ at → ⊥) → shelf-at after s .used ≡ shelf-at before s .used
-  pub still-used : (Bare left at → ⊥) → shelf-at after at .used ≡ shelf-at before at .used
-  pub left-again : Bare left at → shelf-at after at .used ≡ 0
+  pub still-used : (Bare left live at → ⊥) → shelf-at after at .used ≡ shelf-at before at .used
+  pub left-again : Bare left live at → shelf-at after at .used ≡ 0
   pub heights : (s : ℕ) → (shelf-at after s .height ≡ shelf-at before s .height) ⊎ ((shelf-at after s .height ≡ 0) × Idle after s)
-  pub vanished : (s : ℕ) → Idle after s → shelf-at after s .height ≡ 0
+  pub none-lowest : (s : ℕ) → Idle after s → shelf-at after s .height ≡ 0
 
 -- new shelves: of those sizes, with no image and no shelf
 pub record Fresh (width height count : ℕ) (g : Shelves) : Type 0 where
   pub wide : g .width ≡ width
   pub high : g .height ≡ height
   pub pages : g .count ≡ count
-  pub none-live : (i : ℕ) → live-of (g .spots) i ≡ None
+  pub none-live : (i : ℕ) → live-of (g .spots) (g .live) i ≡ None
   pub no-shelves : (s : ℕ) → shelf-at (g .shelves) s .height ≡ 0
 
 -- refused exactly when a size is out of its limits
@@ -184,6 +181,14 @@ abbrev pub Opened : ℕ → ℕ → ℕ → Result Shelves CacheFault → Type 0
 Opened width height count (Ok g) = (Side width × Side height × Pages count) × Fresh width height count g
 Opened width height count (Err e) = (Side width × Side height × Pages count → ⊥) × (e ≡ Sizes)
 
--- the images after the one at k left: the later ones are one place further down
+-- the spots after the image at k left: the later ones are one place further down, and its own is the last, so that its id is free
 abbrev pub left-of : List Spot → ℕ → List Spot
-left-of spots k = set (closed-up spots k) 255 no-spot
+left-of spots k = set (closed-up spots k) 255 (spot-at spots k)
+
+-- 256 spots with the ids 0 to 255
+abbrev pub Numbered : List Spot → Type 0
+Numbered spots = (k : ℕ) → k < 256 → spot-at spots k .id ≡ k
+
+-- the shelf of the image with that id, after it left
+abbrev pub LeftBy : Shelves → ℕ → Shelves → Type 0
+LeftBy g i d = (k : ℕ) → k < g .live → spot-at (g .spots) k .id ≡ i → Settled (g .shelves) (spot-at (g .spots) k .shelf) (d .shelves) (d .spots) (d .live)

@@ -1,24 +1,18 @@
 // Shelves as an image cache.
-ghost use mathlib.Core.Path.{_≡_};
-ghost use mathlib.Core.Bool.{true};
-ghost use Prim.Native.Nat.{ℕ};
 ghost use Rattle.std.specs.Vec.{made};
 ghost use Rattle.shapes.specs.Answers.{Keeps-refused};
 ghost use Rattle.image_cache.specs.Caches.{Allocated, Freed};
-ghost use Rattle.shelf_cache.specs.Places.{shelf-cache, has-at, PutAt, Settled};
-ghost use Rattle.shelf_cache.specs.Rows.{spot-at};
-use crate::search::find;
-use crate::search::first_vacant;
-use crate::search::is_bare;
-use crate::search::lower;
-use crate::search::unused_id;
-use crate::shelf::Shelf;
-use crate::shelf::Spot;
+ghost use Rattle.shelf_cache.specs.Places.{shelf-cache, PutAt, LeftBy};
 use crate::shelves::Shelves;
+use crate::steps::spot_on;
+use crate::steps::to_image;
+use crate::steps::with_image;
+use crate::steps::without_image;
+use crate::tables::lower;
+use crate::tables::retire;
 use image_cache::cache::ImageCache;
 use image_cache::image::CacheFault;
 use image_cache::image::Image;
-use lists::close::close_up;
 
 pub impl ImageCache for Shelves as ShelfCache {
     ghost meaning = { shelf-cache };
@@ -44,7 +38,7 @@ pub impl ImageCache for Shelves as ShelfCache {
     }
 
     fn fits(&self, w: u16, h: u16) -> bool {
-        first_vacant(&self.spots).is_some() && self.place(w, h).is_some()
+        self.live < 256 && self.place(w, h).is_some()
     }
 
     fn allocate(&mut self, w: u16, h: u16) -> Result<u32, CacheFault>
@@ -52,74 +46,40 @@ pub impl ImageCache for Shelves as ShelfCache {
         ensures keeps { λ r. ⌜ Keeps-refused r (now (self .entry)) (now (self .exit)) ⌝ }
         ensures put { λ r. ⌜ made r (λ i. PutAt (now (self .entry)) w h i (now (self .exit))) ⌝ }
     {
-        let Some(at) = first_vacant(&self.spots) else {
+        if self.live >= 256 {
             return Err(CacheFault::NoFit);
-        };
+        }
         let Some(place) = self.place(w, h) else {
             return Err(CacheFault::NoFit);
         };
-        let Some(id) = unused_id(&self.spots) else {
-            return Err(CacheFault::NoFit);
-        };
-        let shelf = place.shelf;
-        self.shelves[place.at] = Shelf {
-            top: shelf.top,
-            height: shelf.height,
-            used: shelf.used + w,
-        };
-        self.spots[at] = Spot {
-            id,
-            shelf: place.at as u32,
-            x: shelf.used,
-            y: shelf.top,
-            w,
-            h,
-        };
+        let id = self.spots[self.live].id;
+        self.shelves[place.at] = with_image(place.shelf, w);
+        self.spots[self.live] = spot_on(id, place, w, h);
+        self.live += 1;
         Ok(id)
     }
 
     fn get(&self, id: u32) -> Option<Image> {
-        let Some(at) = find(&self.spots, id) else {
+        let Some(at) = self.find(id) else {
             return None;
         };
-        let spot = self.spots[at];
-        Some(Image {
-            id,
-            page: spot.shelf / 16,
-            x: spot.x,
-            y: spot.y,
-            w: spot.w,
-            h: spot.h,
-        })
+        Some(to_image(self.spots[at]))
     }
 
     fn free(&mut self, id: u32) -> Result<(), CacheFault>
         ensures frees { λ r. ⌜ Freed (shelf-cache (now (self .entry))) id r (shelf-cache (now (self .exit))) ⌝ }
         ensures keeps { λ r. ⌜ Keeps-refused r (now (self .entry)) (now (self .exit)) ⌝ }
-        ensures settles { λ r. ⌜ made r (λ _. (k : ℕ) → has-at (now (self .entry) .spots) id k ≡ true → Settled (now (self .entry) .shelves) (spot-at (now (self .entry) .spots) k .shelf) (now (self .exit) .shelves) (now (self .exit) .spots)) ⌝ }
+        ensures settles { λ r. ⌜ made r (λ _. LeftBy (now (self .entry)) id (now (self .exit))) ⌝ }
     {
-        let Some(k) = find(&self.spots, id) else {
+        let Some(k) = self.find(id) else {
             return Err(CacheFault::NotLive);
         };
-        let at = self.spots[k].shelf;
-        close_up(&mut self.spots, k);
-        self.spots[255] = Spot {
-            id: 0,
-            shelf: 0,
-            x: 0,
-            y: 0,
-            w: 0,
-            h: 0,
-        };
-        if is_bare(&self.spots, at) {
-            let shelf = self.shelves[at as usize];
-            self.shelves[at as usize] = Shelf {
-                top: shelf.top,
-                height: shelf.height,
-                used: 0,
-            };
-            lower(&mut self.shelves, at as usize / 16);
-        }
+        let at = self.spots[k].shelf as usize;
+        let shelf = without_image(self.shelves[at]);
+        retire(&mut self.spots, k);
+        self.live -= 1;
+        self.shelves[at] = shelf;
+        lower(&mut self.shelves, at / 16);
         Ok(())
     }
 }

@@ -1,7 +1,9 @@
-// An image cache of shelves.
+// An image cache of shelves: an image goes to the first shelf that takes it, else to a new one on the first page with room.
 pub mod images;
 pub mod opens;
-pub mod places;
-pub mod search;
+mod places;
+mod search;
 pub mod shelf;
 pub mod shelves;
+mod steps;
+mod tables;

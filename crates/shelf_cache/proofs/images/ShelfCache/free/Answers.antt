@@ -1,55 +1,36 @@
+-- With the image gone and the empty lowest shelves with it, all is sound, and one image less is live.
 use borrow.Author.Needs.{needs}
-use mathlib.Core.Path.{_≡_, refl, sym, ap, subst, _∙_}
-use Prim.Native.Nat.{ℕ, _<_}
-use native.Mathlib.Omega.{arith}
-use lib.ListN.{length}
+use mathlib.Core.Path.{_≡_, refl, sym, ap, _∙_}
 use Rattle.std.specs.Options.{mapped}
-use Rattle.std.proofs.shelf.Tests.{both-ways}
-use Rattle.std.specs.declared.option.Option.{Option}
-use Rattle.std.specs.declared.option.Option.the-variants.{None, Some}
+use Rattle.std.proofs.shelf.Tests.{eqb-true}
+use Rattle.std.specs.declared.option.Option.the-variants.{None}
 use Rattle.shelf_cache.specs.Rows.{spot-at}
-use Rattle.shelf_cache.specs.Places.{FirstBelow, has-at, image-of}
+use Rattle.shelf_cache.specs.Places.{has-at, image-of}
 use Rattle.shelf_cache.proofs.First.{first-is}
-use Rattle.shelf_cache.proofs.Leaving.{left-still, left-lower}
+use Rattle.shelf_cache.proofs.Leaving.{Left, counted-here, left}
 use Rattle.shelf_cache.proofs.Whole.{parts}
 use Rattle.shelf_cache.proofs.images.ShelfCache.free.Needs as need
 
 pub returns-in-rest : need.returns-in-rest
 returns-in-rest c =
     let g = c .args .self .now in
-    let n : length (g .spots) ≡ 256 = search needs in
-    let P : ℕ → Type 0 = λ k. FirstBelow (has-at (g .spots) (c .args .id)) k None in
-    let e = ap (mapped (λ j. image-of (spot-at (g .spots) j))) (first-is (has-at (g .spots) (c .args .id)) 256 None (subst P n (c .in-rest .ensures tt))) in
+    let e = ap (mapped (λ j. image-of (spot-at (g .spots) j))) (first-is (has-at (g .spots) (c .args .id)) (g .live) None (c .in-rest .ensures tt)) in
     record { frees = record { none = e; fault = refl; same = refl }; keeps = refl; settles = tt }
 
-pub ghost-self-else-is-bare : need.ghost-self-else-is-bare
-ghost-self-else-is-bare c =
-    let g = c .args .self .now in
-    let n : length (g .spots) ≡ 256 = search needs in
+pub without-image-shelf-requires : need.without-image-shelf-requires
+without-image-shelf-requires c κs =
     let f = c .in-Some .ensures tt in
-    parts _ _ _ _ _ (left-still g (c .args .id) (c .in-Some .k) n (omega (arith, f .0)) (f .1) (c .close-up .last .records) (c .close-up .ensures) (λ b. both-ways (c .is-bare .result) (c .if-is-bare .left) (c .is-bare .ensures .1 b)) .sound)
-
-pub returns-else-is-bare : need.returns-else-is-bare
-returns-else-is-bare c =
-    let g = c .args .self .now in
-    let n : length (g .spots) ≡ 256 = search needs in
-    let f = c .in-Some .ensures tt in
-    let l = left-still g (c .args .id) (c .in-Some .k) n (omega (arith, f .0)) (f .1) (c .close-up .last .records) (c .close-up .ensures) (λ b. both-ways (c .is-bare .result) (c .if-is-bare .left) (c .is-bare .ensures .1 b)) in
-    record { frees = l .removes; keeps = tt; settles = l .settles }
+    counted-here (c .args .self .now) (c .args .id) (c .in-Some .k) (search needs) (search needs) (f .0) (eqb-true _ _ (f .1))
 
 pub ghost-self : need.ghost-self
 ghost-self c =
-    let g = c .args .self .now in
-    let n : length (g .spots) ≡ 256 = search needs in
-    let m : spot-at (g .spots) (c .in-Some .k) .shelf < length (g .shelves) = search needs in
     let f = c .in-Some .ensures tt in
-    parts _ _ _ _ _ (left-lower g (c .args .id) (c .in-Some .k) n (omega (arith, f .0)) (f .1) (c .close-up .last .records) (c .close-up .ensures) (c .lower .last .shelves) m (c .lower .ensures) (c .is-bare .ensures .0 (c .if-is-bare .taken)) .sound)
+    parts _ _ _ _ _ _ (left (c .args .self .now) (c .args .id) (c .in-Some .k) (search needs) (search needs) (f .0) (eqb-true _ _ (f .1))
+    (c .retire .last .spots) (c .retire .ensures) (c .without-image-shelf .result) (c .without-image-shelf .ensures) (c .lower .last .shelves) (c .lower .ensures) .sound)
 
-pub returns-then-is-bare : need.returns-then-is-bare
-returns-then-is-bare c =
-    let g = c .args .self .now in
-    let n : length (g .spots) ≡ 256 = search needs in
-    let m : spot-at (g .spots) (c .in-Some .k) .shelf < length (g .shelves) = search needs in
+pub returns : need.returns
+returns c =
     let f = c .in-Some .ensures tt in
-    let l = left-lower g (c .args .id) (c .in-Some .k) n (omega (arith, f .0)) (f .1) (c .close-up .last .records) (c .close-up .ensures) (c .lower .last .shelves) m (c .lower .ensures) (c .is-bare .ensures .0 (c .if-is-bare .taken)) in
+    let l = left (c .args .self .now) (c .args .id) (c .in-Some .k) (search needs) (search needs) (f .0) (eqb-true _ _ (f .1))
+    (c .retire .last .spots) (c .retire .ensures) (c .without-image-shelf .result) (c .without-image-shelf .ensures) (c .lower .last .shelves) (c .lower .ensures) in
     record { frees = l .removes; keeps = tt; settles = l .settles }

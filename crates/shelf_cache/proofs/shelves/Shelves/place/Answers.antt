@@ -1,58 +1,50 @@
-use borrow.Author.Needs.{needs}
+-- What the pass over the shelves chose is the place of the image.
 use mathlib.Core.Path.{_≡_, refl, sym, ap, subst, _∙_}
-use Prim.Native.Nat.{ℕ, _<_, _≤_}
+use Prim.Native.Nat.{ℕ, _≤_}
 use native.Mathlib.Omega.{arith}
-use lib.ListN.{length}
+use mir.Facts.{fits-below}
 use Rattle.std.specs.declared.option.Option.{Option}
 use Rattle.std.specs.declared.option.Option.the-variants.{None, Some}
 use Rattle.shelf_cache.specs.declared.shelf.Place.{Place}
-use Rattle.shelf_cache.specs.Places.{size-fits, takes-at, opens-at, end-above, FirstBelow, new-place, Fit}
+use Rattle.shelf_cache.specs.Places.{Fit}
 use Rattle.shelf_cache.proofs.Placing.{sized, place-both, place-old, fit-old, fit-new}
+use Rattle.shelf_cache.proofs.Rooms.{opens-is}
 use Rattle.shelf_cache.proofs.shelves.Shelves.place.Needs as need
 
-pub returns-in-Some : need.returns-in-Some
-returns-in-Some c =
+pub cast-top : need.cast-top
+cast-top c =
     let g = c .args .self .now in
-    let w = c .args .w in
-    let h = c .args .h in
-    let z = sized (g .width) (g .height) w h (omega arith) (omega arith) (omega arith) (omega arith) in
-    let n : length (g .shelves) ≡ 64 = search needs in
-    let P : ℕ → Type 0 = λ k. FirstBelow (takes-at (g .width) w h (g .shelves)) k (Some (c .in-Some .at)) in
-    let f = subst P n (c .in-Some .ensures tt) in
+    let o = opens-is (g .count) (g .height) (c .args .h) (g .shelves) (c .in-New .at) (c .in-New .ensures tt .1 .1) in
+    fits-below {n = 65535} tt (omega (arith, o .left, c .end-of-top .ensures, g .high))
+
+pub returns-in-Old : need.returns-in-Old
+returns-in-Old c =
+    let g = c .args .self .now in
+    let z = sized (g .width) (g .height) (c .args .w) (c .args .h) (omega arith) (omega arith) (omega arith) (omega arith) in
+    let f = c .in-Old .ensures tt in
     record {
-      value = sym (place-old (g .width) (g .height) (g .count) (g .shelves) w h (c .in-Some .at) z f);
-      fit = fit-old (g .width) (g .height) (g .count) (g .shelves) w h (c .in-Some .at) z f;
+      value = sym (place-old (g .width) (g .height) (g .count) (g .shelves) (c .args .w) (c .args .h) (c .in-Old .at) z f);
+      fit = fit-old (g .width) (g .height) (g .count) (g .shelves) (c .args .w) (c .args .h) (c .in-Old .at) z f;
     }
 
-pub returns-in-rest-first-open : need.returns-in-rest-first-open
-returns-in-rest-first-open c =
+pub returns-in-New : need.returns-in-New
+returns-in-New c =
     let g = c .args .self .now in
     let w = c .args .w in
     let h = c .args .h in
+    let s = c .in-New .at in
     let z = sized (g .width) (g .height) w h (omega arith) (omega arith) (omega arith) (omega arith) in
-    let n : length (g .shelves) ≡ 64 = search needs in
-    let P : ℕ → Type 0 = λ k. FirstBelow (takes-at (g .width) w h (g .shelves)) k None in
-    let Q : ℕ → Type 0 = λ k. FirstBelow (opens-at (g .count) (g .height) h (g .shelves)) k None in
-    record {
-      value = sym (place-both (g .width) (g .height) (g .count) (g .shelves) w h None None z (subst P n (c .in-rest .ensures tt)) (subst Q n (c .in-rest-first-open .ensures tt)));
-      fit = tt;
-    }
-
-pub returns : need.returns
-returns c =
-    let g = c .args .self .now in
-    let w = c .args .w in
-    let h = c .args .h in
-    let s = c .in-Some-first-open .at in
-    let z = sized (g .width) (g .height) w h (omega arith) (omega arith) (omega arith) (omega arith) in
-    let n : length (g .shelves) ≡ 64 = search needs in
-    let P : ℕ → Type 0 = λ k. FirstBelow (takes-at (g .width) w h (g .shelves)) k None in
-    let Q : ℕ → Type 0 = λ k. FirstBelow (opens-at (g .count) (g .height) h (g .shelves)) k (Some s) in
-    let f = subst P n (c .in-rest .ensures tt) in
-    let o = subst Q n (c .in-Some-first-open .ensures tt) in
-    let placed : ℕ → Place = λ top. record { at = s; shelf = record { top = top; height = h; used = 0 } } in
+    let f = c .in-New .ensures tt in
+    let placed : ℕ → Place = λ top. record { at = s; shelf = record { top = top; height = h; used = 0; images = 0 } } in
     let F : ℕ → Type 0 = λ top. Fit (g .width) (g .height) (g .count) (g .shelves) w h (placed top) in
     record {
-      value = ap (λ top. Some (placed top)) (c .end-of-top .ensures) ∙ sym (place-both (g .width) (g .height) (g .count) (g .shelves) w h None (Some s) z f o);
-      fit = subst F (sym (c .end-of-top .ensures)) (fit-new (g .width) (g .height) (g .count) (g .shelves) w h s (g .gapless) z f o);
+      value = ap (λ top. Some (placed top)) (c .end-of-top .ensures) ∙ sym (place-both (g .width) (g .height) (g .count) (g .shelves) w h None (Some s) z (f .0) (f .1));
+      fit = subst F (sym (c .end-of-top .ensures)) (fit-new (g .width) (g .height) (g .count) (g .shelves) w h s (g .gapless) z (f .0) (f .1));
     }
+
+pub returns-in-Nowhere : need.returns-in-Nowhere
+returns-in-Nowhere c =
+    let g = c .args .self .now in
+    let z = sized (g .width) (g .height) (c .args .w) (c .args .h) (omega arith) (omega arith) (omega arith) (omega arith) in
+    let f = c .in-Nowhere .ensures tt in
+    record { value = sym (place-both (g .width) (g .height) (g .count) (g .shelves) (c .args .w) (c .args .h) None None z (f .0) (f .1)); fit = tt }

@@ -1,8 +1,8 @@
 -- What is said of the answer of any call. Assumes nothing.
 --     refused-with number r    the number of the refusal, if the answer r is one
---     Keeps-refused r x y    a call answered with r: where r is a refusal, what was x before the call is the same, y, after it
-use mathlib.Core.Path.{_≡_}
+--     Keeps-refused r x y      a call answered with r: where r is a refusal, what was x before the call is the same, y, after it
 use Prim.Native.Nat.{ℕ}
+use mathlib.Core.Path.{_≡_}
 use Rattle.std.specs.declared.option.Option.{Option}
 use Rattle.std.specs.declared.option.Option.the-variants.{Some, None}
 use Rattle.std.specs.declared.result.Result.{Result}

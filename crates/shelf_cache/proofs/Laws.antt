@@ -18,7 +18,7 @@ use Rattle.shelf_cache.specs.Rows.{shelf-at, spot-at}
 use Rattle.shelf_cache.specs.Sound.{Sound, Over, Row}
 use Rattle.shelf_cache.specs.Places.{takes-at, opens-at, image-of, live-of, cache-of}
 use Rattle.shelf_cache.proofs.Names.{live-is, not-live-is}
-use Rattle.shelf_cache.proofs.Placing.{sized, place-both, place-none}
+use Rattle.shelf_cache.proofs.Placing.{admitted, place-both, place-none}
 
 module _ (width height count : ℕ) (shelves : List Shelf) (spots : List Spot) (live : ℕ) (S : Sound width height count shelves spots live) where
   pub there : (i : ℕ) → i < live → 0 < shelf-at shelves (spot-at spots i .shelf) .height
@@ -67,12 +67,12 @@ module _ (width height count : ℕ) (shelves : List Shelf) (spots : List Spot) (
   fits-when-empty : ((i : ℕ) → live-of spots live i ≡ None) → (w h : ℕ) → 0 < w → w ≤ width → 0 < h → h ≤ height → cache-of width height count shelves spots live .fits w h ≡ true
   fits-when-empty none w h w₀ w₁ h₀ h₁ =
       let gone = no-shelves none in
-      let z = sized width height w h w₀ w₁ h₀ h₁ in
+      let z = admitted live width height w h (omega (arith, none-live none)) w₀ w₁ h₀ h₁ in
       let f : (k : ℕ) → k < 64 → takes-at width w h shelves k ≡ false = λ k _. and-left _ _ (lt-leb h (shelf-at shelves k .height) (omega (arith, gone k))) in
       let o : opens-at count height h shelves 0 ≡ true =
       and-from _ _ (lt-ltb 0 (16 * count) (omega (arith, S .pages))) (and-from _ _ (eq-eqb (shelf-at shelves 0 .height) 0 (gone 0)) (le-leb (0 + h) height (omega arith))) in
-      let e = place-both width height count shelves w h None (Some 0) z f (omega arith, o, λ k l. absurd (omega arith)) in
-      and-from _ _ (lt-ltb live 256 (omega (arith, none-live none))) (ap isSome e)
+      let e = place-both width height count shelves live w h None (Some 0) z f (omega arith, o, λ k l. absurd (omega arith)) in
+      ap isSome e
 
   pub lawful : Lawful (cache-of width height count shelves spots live)
   lawful = record {
@@ -92,7 +92,7 @@ module _ (width height count : ℕ) (shelves : List Shelf) (spots : List Spot) (
         let P : Image → Type 0 = λ x. In z x → In z b → ⊥ in
         let Q : Image → Type 0 = λ x. In z (image-of (spot-at spots (f .0))) → In z x → ⊥ in
         subst P (sym (f .1 .1 .1)) (subst Q (sym (g .1 .1 .1)) (images-apart (f .0) (g .0) (λ e. ne (sym (f .1 .1 .0) ∙ (ap (λ n. spot-at spots n .id) e ∙ g .1 .1 .0))) (f .1 .0) (g .1 .0) z));
-    none-wide = λ h. and-right (ltb live 256) false refl;
-    none-high = λ w. and-right (ltb live 256) _ (ap isSome (place-none width height count shelves w 0 (and-right (ltb 0 w && leb w width) false refl)));
+    none-wide = λ h. ap isSome (place-none width height count shelves live 0 h (and-right (ltb live 256) false refl));
+    none-high = λ w. ap isSome (place-none width height count shelves live w 0 (and-right (ltb live 256) _ (and-right (ltb 0 w && leb w width) false refl)));
     empty-fits = fits-when-empty;
   }

@@ -1,4 +1,4 @@
--- What `free` leaves, from the contracts of the calls that it makes.
+-- What `remove` leaves, from the contracts of the calls that it makes.
 use mathlib.Core.Path.{_≡_, refl, sym, ap, subst, _∙_}
 use mathlib.Core.List.{List}
 use Prim.Native.Nat.{ℕ, _-_, _*_, _/_, _≤_, _<_}
@@ -11,7 +11,7 @@ use Rattle.shelf_cache.specs.declared.shelves.Shelves.{Shelves}
 use Rattle.shelf_cache.specs.Rows.{shelf-at, spot-at}
 use Rattle.shelf_cache.specs.Sound.{Sound, Lowered, Twins}
 use Rattle.shelf_cache.specs.Places.{cache-of, Settled, left-of, eased}
-use Rattle.shelf_cache.proofs.Changes.{removed-is}
+use Rattle.shelf_cache.proofs.Meanings.{removed-is}
 use Rattle.shelf_cache.proofs.Freeing.{some-here, loose, lowered-sound, settled}
 use Rattle.shelf_cache.proofs.Laws.{there}
 use Rattle.shelf_cache.proofs.Whole.{sound-of}

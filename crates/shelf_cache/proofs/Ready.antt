@@ -84,7 +84,7 @@ module _ (width height count : ℕ) (shelves : List Shelf) (spots : List Spot) (
         counted = sym (count-none (stands-on spots s) live (λ j l. ne-eqb _ _ (none-on s gone j l)));
       }
 
-  pub ready : (p : Place) → Fit width height count shelves w h p → Ready width height count shelves spots live w h p
+  pub ready : (p : Place) → Fit width height count shelves live w h p → Ready width height count shelves spots live w h p
   ready p f =
       let P : Place → Type 0 = Ready width height count shelves spots live w h in
       ⊎-elim (λ o. subst P (sym (o .is)) (ready-old (p .at) (o .takes-it))) (λ o. subst P (sym (o .is)) (ready-new (p .at) (o .opens))) (f .chosen)

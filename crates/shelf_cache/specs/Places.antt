@@ -2,7 +2,8 @@
 --     takes width w h s       the shelf s is tall enough, and has w left at its right end
 --     opens-at .. s           a new shelf of height h can be opened at the place s
 --     Choice                  the first shelf that takes the image, else the first place for a new one
---     Fit .. p                p is where the image goes, by the rules above
+--     Fit .. p, FitIn g w h p p is where the image goes, by the rules above
+--     Finds g i r             r is the place of the image i, if there is one
 --     shelf-cache g           what the shelves g mean as an image cache
 --     PutAt g w h i d         an image of w by h stands where it goes, and no other shelf changes: g before, d after
 --     LeftBy g i d            the shelf that the image i left, and all others: g before, d after
@@ -22,8 +23,8 @@ use Rattle.std.specs.declared.result.Result.the-variants.{Ok, Err}
 use Rattle.lists.specs.Lists.{closed-up}
 use Rattle.image_cache.specs.Caches.{Cache}
 use Rattle.image_cache.specs.declared.image.Image.{Image}
-use Rattle.image_cache.specs.declared.image.CacheFault.{CacheFault}
-use Rattle.image_cache.specs.declared.image.CacheFault.the-variants.{Sizes}
+use Rattle.image_cache.specs.declared.fault.CacheFault.{CacheFault}
+use Rattle.image_cache.specs.declared.fault.CacheFault.the-variants.{Sizes}
 use Rattle.shelf_cache.specs.declared.shelf.Shelf.{Shelf}
 use Rattle.shelf_cache.specs.declared.shelf.Spot.{Spot}
 use Rattle.shelf_cache.specs.declared.shelf.Place.{Place}
@@ -48,8 +49,9 @@ abbrev pub opens-at : ℕ → ℕ → ℕ → List Shelf → ℕ → Bool
 opens-at count height h shelves s =
     ltb s (16 * count) && (eqb (shelf-at shelves s .height) 0 && ((eqb (s % 16) 0 || ltb 0 (shelf-at shelves (s - 1) .height)) && leb (end-above shelves s + h) height))
 
-abbrev pub size-fits : ℕ → ℕ → ℕ → ℕ → Bool
-size-fits width height w h = (ltb 0 w && leb w width) && (ltb 0 h && leb h height)
+-- a spot is free, and the size is from 1 by 1 to the page
+abbrev pub admits : ℕ → ℕ → ℕ → ℕ → ℕ → Bool
+admits live width height w h = ltb live 256 && ((ltb 0 w && leb w width) && (ltb 0 h && leb h height))
 
 -- what one pass over n places finds: the first that takes, else the first that opens
 abbrev pub Chosen : (ℕ → Bool) → (ℕ → Bool) → ℕ → Choice → Type 0
@@ -63,9 +65,9 @@ old-place shelves s = record { at = s; shelf = shelf-at shelves s }
 abbrev pub new-place : List Shelf → ℕ → ℕ → Place
 new-place shelves h s = record { at = s; shelf = record { top = end-above shelves s; height = h; used = 0; images = 0 } }
 
-abbrev pub place-of : ℕ → ℕ → ℕ → List Shelf → ℕ → ℕ → Option Place
-place-of width height count shelves w h =
-    cond (size-fits width height w h)
+abbrev pub place-of : ℕ → ℕ → ℕ → List Shelf → ℕ → ℕ → ℕ → Option Place
+place-of width height count shelves live w h =
+    cond (admits live width height w h)
     (or-else (mapped (old-place shelves) (first-below (takes-at width w h shelves) 64)) (mapped (new-place shelves h) (first-below (opens-at count height h shelves) 64)))
     None
 
@@ -102,8 +104,8 @@ pub record FirstOpened (width height count w h : ℕ) (shelves : List Shelf) (p 
   pub none-before : (s : ℕ) → s < p .at → opens-at count height h shelves s ≡ false
   pub page : FirstPage count height h shelves (p .at)
 
-pub record Fit (width height count : ℕ) (shelves : List Shelf) (w h : ℕ) (p : Place) : Type 0 where
-  pub size : size-fits width height w h ≡ true
+pub record Fit (width height count : ℕ) (shelves : List Shelf) (live w h : ℕ) (p : Place) : Type 0 where
+  pub admitted : admits live width height w h ≡ true
   pub there : p .at < 64
   pub chosen : FirstTaking width w h shelves p ⊎ FirstOpened width height count w h shelves p
 
@@ -118,7 +120,7 @@ has-at spots i j = eqb (spot-at spots j .id) i
 abbrev pub live-of : List Spot → ℕ → ℕ → Option Image
 live-of spots live i = mapped (λ j. image-of (spot-at spots j)) (first-below (has-at spots i) live)
 
--- an image fits where a spot is free and a shelf takes it or opens for it
+-- an image fits where it has a place
 abbrev pub cache-of : ℕ → ℕ → ℕ → List Shelf → List Spot → ℕ → Cache
 cache-of width height count shelves spots live = record {
   page-width = width;
@@ -127,14 +129,22 @@ cache-of width height count shelves spots live = record {
   largest-width = width;
   largest-height = height;
   live = live-of spots live;
-  fits = λ w h. ltb live 256 && isSome (place-of width height count shelves w h);
+  fits = λ w h. isSome (place-of width height count shelves live w h);
 }
 
 abbrev pub shelf-cache : Shelves → Cache
 shelf-cache g = cache-of (g .width) (g .height) (g .count) (g .shelves) (g .spots) (g .live)
 
 abbrev pub place-for : Shelves → ℕ → ℕ → Option Place
-place-for g w h = place-of (g .width) (g .height) (g .count) (g .shelves) w h
+place-for g w h = place-of (g .width) (g .height) (g .count) (g .shelves) (g .live) w h
+
+abbrev pub FitIn : Shelves → ℕ → ℕ → Place → Type 0
+FitIn g w h p = Fit (g .width) (g .height) (g .count) (g .shelves) (g .live) w h p
+
+-- where the image with that id is, or that there is none
+abbrev pub Finds : Shelves → ℕ → Option ℕ → Type 0
+Finds g i None = live-of (g .spots) (g .live) i ≡ None
+Finds g i (Some k) = (k < g .live) × (spot-at (g .spots) k .id ≡ i) × (live-of (g .spots) (g .live) i ≡ Some (image-of (spot-at (g .spots) k)))
 
 -- the shelf with one image more at its right end, and that image
 abbrev pub filled : Shelf → ℕ → Shelf
@@ -147,7 +157,7 @@ put-on i p w h = record { id = i; shelf = p .at; x = p .shelf .used; y = p .shel
 pub record PutAt (g : Shelves) (w h i : ℕ) (d : Shelves) : Type 0 where
   pub place : Place
   pub chosen : place-for g w h ≡ Some place
-  pub fit : Fit (g .width) (g .height) (g .count) (g .shelves) w h place
+  pub fit : FitIn g w h place
   pub image : live-of (d .spots) (d .live) i ≡ Some (image-of (put-on i place w h))
   pub shelves : d .shelves ≡ set (g .shelves) (place .at) (filled (place .shelf) w)
 

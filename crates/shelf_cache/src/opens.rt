@@ -1,18 +1,24 @@
 // New shelves.
-ghost use Rattle.shelf_cache.specs.Places.{Opened};
+ghost use Prim.Native.Nat.{_≤_, _<_};
+ghost use Rattle.shelf_cache.specs.Sound.{Side, Pages};
+ghost use Rattle.shelf_cache.specs.Places.{Fresh, Opened};
 use crate::shelf::Shelf;
 use crate::shelves::Shelves;
 use crate::tables::free_spots;
-use image_cache::image::CacheFault;
+use image_cache::fault::CacheFault;
+
+const SMALLEST_SIDE: u32 = 2;
+
+const LARGEST_SIDE: u32 = 65535;
+
+const MOST_PAGES: u32 = 4;
 
 impl Shelves {
-    // Pages of that size with no shelf on them; refused where a side is not 2 to 65535 or the pages are not 1 to 4.
-    pub fn new(width: u32, height: u32, count: u32) -> Result<Shelves, CacheFault>
-        ensures { λ r. ⌜ Opened width height count r ⌝ }
+    // Pages with no shelf on them.
+    pub(crate) fn empty(width: u16, height: u16, count: u32) -> Shelves
+        requires { ⌜ Side width × Side height × Pages count ⌝ }
+        ensures { λ r. ⌜ Fresh width height count r ⌝ }
     {
-        if width < 2 || width > 65535 || height < 2 || height > 65535 || count < 1 || count > 4 {
-            return Err(CacheFault::Sizes);
-        }
         let shelves = [Shelf {
             top: 0,
             height: 0,
@@ -20,13 +26,30 @@ impl Shelves {
             images: 0,
         }; 64];
         let spots = free_spots();
-        Ok(Shelves {
-            width: width as u16,
-            height: height as u16,
+        Shelves {
+            width,
+            height,
             count,
             shelves,
             spots,
             live: 0,
-        })
+        }
+    }
+
+    // Refused where a side is not 2 to 65535 or the pages are not 1 to 4.
+    pub fn new(width: u32, height: u32, count: u32) -> Result<Shelves, CacheFault>
+        ensures { λ r. ⌜ Opened width height count r ⌝ }
+    {
+        if width < SMALLEST_SIDE
+            || width > LARGEST_SIDE
+            || height < SMALLEST_SIDE
+            || height > LARGEST_SIDE
+        {
+            return Err(CacheFault::Sizes);
+        }
+        if count < 1 || count > MOST_PAGES {
+            return Err(CacheFault::Sizes);
+        }
+        Ok(Shelves::empty(width as u16, height as u16, count))
     }
 }

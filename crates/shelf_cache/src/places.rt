@@ -1,7 +1,7 @@
 // Where the next image goes.
 ghost use mathlib.Core.Path.{_≡_};
 ghost use Rattle.std.specs.Slices.{found};
-ghost use Rattle.shelf_cache.specs.Places.{takes-at, opens-at, Chosen, place-for, Fit};
+ghost use Rattle.shelf_cache.specs.Places.{takes-at, opens-at, Chosen, place-for, FitIn};
 use crate::shelf::Choice;
 use crate::shelf::Place;
 use crate::shelf::Shelf;
@@ -36,9 +36,9 @@ impl Shelves {
     // That shelf as it is, or a new one of the image's height below the last of its page.
     pub(crate) fn place(&self, w: u16, h: u16) -> Option<Place>
         ensures value { λ r. ⌜ r ≡ place-for (now (self .entry)) w h ⌝ }
-        ensures fit { λ r. ⌜ found r (λ p. Fit (now (self .entry) .width) (now (self .entry) .height) (now (self .entry) .count) (now (self .entry) .shelves) w h p) ⌝ }
+        ensures fit { λ r. ⌜ found r (λ p. FitIn (now (self .entry)) w h p) ⌝ }
     {
-        if w == 0 || w > self.width || h == 0 || h > self.height {
+        if self.live >= 256 || w == 0 || w > self.width || h == 0 || h > self.height {
             return None;
         }
         match self.look(w, h) {

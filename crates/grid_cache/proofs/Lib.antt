@@ -1,0 +1,5 @@
+mod Bits
+mod Rooms
+mod Laws
+mod Turning
+mod Opening

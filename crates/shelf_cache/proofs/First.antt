@@ -39,11 +39,11 @@ first-step p n (Some i) b e f = (omega (arith, f .0), f .1, f .2)
 first-step p n None true e f = (omega arith, e, f)
 first-step p n None false e f = λ k l. ⊎-elim (λ m. f k m) (λ m. let q : k ≡ n = omega arith in ap p q ∙ e) (cases-lt k n)
 
-pub first-more : (p : ℕ → Bool) (n : ℕ) (o r : Option ℕ) (b : Bool) → p n ≡ b → r ≡ or-else o (cond b (Some n) None) → FirstBelow p n o → FirstBelow p (n + 1) r
+pub first-more : (p : ℕ → Bool) (n : ℕ) (o r : Option ℕ) (b : Bool) → b ≡ p n → r ≡ or-else o (cond b (Some n) None) → FirstBelow p n o → FirstBelow p (n + 1) r
 first-more p n o r b e q f =
     let P : ℕ → Type 0 = λ m. FirstBelow p m (or-else o (cond b (Some n) None)) in
     let Q : Option ℕ → Type 0 = FirstBelow p (n + 1) in
-    subst Q (sym q) (subst P (sym (add-one n)) (first-step p n o b e f))
+    subst Q (sym q) (subst P (sym (add-one n)) (first-step p n o b (sym e) f))
 
 pub first-spec : (p : ℕ → Bool) (n : ℕ) → FirstBelow p n (first-below p n)
 unfolding first-below

@@ -1,7 +1,7 @@
 -- Where an image goes and what it leaves: on the first shelf that takes it, else on a new shelf of the first page with room. Assumes nothing.
 --     takes width w h s       the shelf s is tall enough, and has w left at its right end
 --     opens-at .. s           a new shelf of height h can be opened at the place s
---     Choice                  the first shelf that takes the image, else the first place for a new one
+--     Chosen taking opening n r      r is the first of n places that takes the image, else the first that opens
 --     Fit .. p, FitIn g w h p p is where the image goes, by the rules above
 --     Finds g i r             r is the place of the image i, if there is one
 --     shelf-cache g           what the shelves g mean as an image cache
@@ -52,6 +52,12 @@ opens-at count height h shelves s =
 -- a spot is free, and the size is from 1 by 1 to the page
 abbrev pub admits : ℕ → ℕ → ℕ → ℕ → ℕ → Bool
 admits live width height w h = ltb live 256 && ((ltb 0 w && leb w width) && (ltb 0 h && leb h height))
+
+-- a shelf that takes the image before a place that opens
+abbrev pub choice-of : Option ℕ → Option ℕ → Choice
+choice-of (Some s) opening = Old s
+choice-of None (Some s) = New s
+choice-of None None = Nowhere
 
 -- what one pass over n places finds: the first that takes, else the first that opens
 abbrev pub Chosen : (ℕ → Bool) → (ℕ → Bool) → ℕ → Choice → Type 0

@@ -6,6 +6,7 @@ use crate::shelf::Choice;
 use crate::shelf::Place;
 use crate::shelf::Shelf;
 use crate::shelves::Shelves;
+use crate::steps::choose;
 use crate::steps::end_of;
 use crate::steps::has_room;
 use crate::steps::is_open;
@@ -16,21 +17,15 @@ impl Shelves {
     pub(crate) fn look(&self, w: u16, h: u16) -> Choice
         ensures { λ r. ⌜ Chosen (takes-at (now (self .entry) .width) w h (now (self .entry) .shelves)) (opens-at (now (self .entry) .count) (now (self .entry) .height) h (now (self .entry) .shelves)) 64 r ⌝ }
     {
-        let mut open = None;
+        let mut opening = None;
         for at in 0..64 {
             if has_room(self.shelves[at], self.width, w, h) {
-                return Choice::Old(at);
+                return choose(Some(at), opening);
             }
-            open = or_here(
-                open,
-                at,
-                is_open(&self.shelves, at, self.count, self.height, h),
-            );
+            let opens = is_open(&self.shelves, at, self.count, self.height, h);
+            opening = or_here(opening, at, opens);
         }
-        match open {
-            Some(at) => Choice::New(at),
-            None => Choice::Nowhere,
-        }
+        choose(None, opening)
     }
 
     // That shelf as it is, or a new one of the image's height below the last of its page.

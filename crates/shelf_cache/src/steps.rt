@@ -5,7 +5,8 @@ ghost use Prim.Native.Nat.{_+_, _≤_, _<_};
 ghost use lib.ListN.{length};
 ghost use Rattle.std.specs.declared.option.Option.the-variants.{None, Some as Found};
 ghost use Rattle.shelf_cache.specs.Rows.{or-else};
-ghost use Rattle.shelf_cache.specs.Places.{takes, end-above, opens-at, filled, put-on, image-of, eased, vanished};
+ghost use Rattle.shelf_cache.specs.Places.{takes, end-above, opens-at, choice-of, filled, put-on, image-of, eased, vanished};
+use crate::shelf::Choice;
 use crate::shelf::Place;
 use crate::shelf::Shelf;
 use crate::shelf::Spot;
@@ -52,6 +53,19 @@ pub(crate) fn or_here(found: Option<usize>, at: usize, passes: bool) -> Option<u
         found
     } else {
         Some(at)
+    }
+}
+
+// A shelf that takes the image before a place for a new one.
+pub(crate) fn choose(taking: Option<usize>, opening: Option<usize>) -> Choice
+    ensures { λ r. ⌜ r ≡ choice-of taking opening ⌝ }
+{
+    if let Some(at) = taking {
+        return Choice::Old(at);
+    }
+    match opening {
+        Some(at) => Choice::New(at),
+        None => Choice::Nowhere,
     }
 }
 

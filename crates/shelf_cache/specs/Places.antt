@@ -7,7 +7,9 @@
 --     shelf-cache g           what the shelves g mean as an image cache
 --     PutAt g w h i d         an image of w by h stands where it goes, and no other shelf changes: g before, d after
 --     LeftBy g i d            the shelf that the image i left, and all others: g before, d after
---     Opened width height count r    new shelves, or the refusal of the sizes
+--     In-limits width height count   the sides of a page and the number of pages are within the limits
+--     Fresh width height count g     g are new shelves on pages of those sizes
+--     Opened width height count r    the answer r to a call for such shelves
 use Prim.Native.Nat.{ℕ, zero, suc, _+_, _-_, _*_, _/_, _%_, _≤_, _<_}
 use mathlib.Core.Path.{_≡_}
 use mathlib.Core.Bool.{Bool, true, false, cond, _&&_, _||_}
@@ -21,10 +23,10 @@ use Rattle.std.specs.declared.option.Option.the-variants.{None, Some}
 use Rattle.std.specs.declared.result.Result.{Result}
 use Rattle.std.specs.declared.result.Result.the-variants.{Ok, Err}
 use Rattle.lists.specs.Lists.{closed-up}
-use Rattle.image_cache.specs.Caches.{Cache}
+use Rattle.image_cache.specs.Faults.{cache-number}
+use Rattle.image_cache.specs.Caches.{Cache, Empty}
 use Rattle.image_cache.specs.declared.image.Image.{Image}
 use Rattle.image_cache.specs.declared.fault.CacheFault.{CacheFault}
-use Rattle.image_cache.specs.declared.fault.CacheFault.the-variants.{Sizes}
 use Rattle.shelf_cache.specs.declared.shelf.Shelf.{Shelf}
 use Rattle.shelf_cache.specs.declared.shelf.Spot.{Spot}
 use Rattle.shelf_cache.specs.declared.shelf.Place.{Place}
@@ -184,18 +186,27 @@ pub record Settled (before : List Shelf) (at : ℕ) (after : List Shelf) (left :
   pub heights : (s : ℕ) → (shelf-at after s .height ≡ shelf-at before s .height) ⊎ ((shelf-at after s .height ≡ 0) × Idle after s)
   pub none-lowest : (s : ℕ) → Idle after s → shelf-at after s .height ≡ 0
 
+pub record In-limits (width height count : ℕ) : Type 0 where
+  pub wide : Side width
+  pub high : Side height
+  pub pages : Pages count
+
 -- new shelves: of those sizes, with no image and no shelf
 pub record Fresh (width height count : ℕ) (g : Shelves) : Type 0 where
   pub wide : g .width ≡ width
   pub high : g .height ≡ height
   pub pages : g .count ≡ count
-  pub none-live : (i : ℕ) → live-of (g .spots) (g .live) i ≡ None
+  pub none-live : Empty (shelf-cache g)
   pub no-shelves : (s : ℕ) → shelf-at (g .shelves) s .height ≡ 0
+
+pub record Outside (width height count : ℕ) (e : CacheFault) : Type 0 where
+  pub outside : In-limits width height count → ⊥
+  pub fault : cache-number e ≡ 11
 
 -- refused exactly when a size is out of its limits
 abbrev pub Opened : ℕ → ℕ → ℕ → Result Shelves CacheFault → Type 0
-Opened width height count (Ok g) = (Side width × Side height × Pages count) × Fresh width height count g
-Opened width height count (Err e) = (Side width × Side height × Pages count → ⊥) × (e ≡ Sizes)
+Opened width height count (Ok g) = In-limits width height count × Fresh width height count g
+Opened width height count (Err e) = Outside width height count e
 
 -- the spots after the image at k left: the later ones are one place further down, and its own is the last, so that its id is free
 abbrev pub left-of : List Spot → ℕ → List Spot

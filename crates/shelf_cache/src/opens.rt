@@ -1,7 +1,5 @@
 // New shelves.
-ghost use Prim.Native.Nat.{_≤_, _<_};
-ghost use Rattle.shelf_cache.specs.Sound.{Side, Pages};
-ghost use Rattle.shelf_cache.specs.Places.{Fresh, Opened};
+ghost use Rattle.shelf_cache.specs.Places.{In-limits, Fresh, Opened};
 use crate::shelf::Shelf;
 use crate::shelves::Shelves;
 use crate::tables::free_spots;
@@ -14,9 +12,9 @@ const LARGEST_SIDE: u32 = 65535;
 const MOST_PAGES: u32 = 4;
 
 impl Shelves {
-    // Pages with no shelf on them.
+    // Pages within the limits, with no shelf on them and no image.
     pub(crate) fn empty(width: u16, height: u16, count: u32) -> Shelves
-        requires { ⌜ Side width × Side height × Pages count ⌝ }
+        requires { ⌜ In-limits width height count ⌝ }
         ensures { λ r. ⌜ Fresh width height count r ⌝ }
     {
         let shelves = [Shelf {
@@ -36,7 +34,7 @@ impl Shelves {
         }
     }
 
-    // Refused where a side is not 2 to 65535 or the pages are not 1 to 4.
+    // Pages of those sides, no shelf on them; refused with 11 where a side is not 2 to 65535 or the pages are not 1 to 4.
     pub fn new(width: u32, height: u32, count: u32) -> Result<Shelves, CacheFault>
         ensures { λ r. ⌜ Opened width height count r ⌝ }
     {

@@ -1,27 +1,54 @@
-// Which image cache a page is packed onto: the words after the page's path.
+// Which image caches a page is packed onto: the words after the page's path.
+use std::alloc::AllocError;
+use std::alloc::Global;
 use std::fmt;
 
 #[derive(Clone, Copy)]
 pub enum CacheChoice {
-    Shelf(u16, u16, u32),
+    Shelf(u32, u32, u32),
     Grid(u16, u32),
 }
 
-impl CacheChoice {
-    // `shelf WIDTH HEIGHT PAGES` or `grid SIDE PAGES`; none where the words are not these.
-    pub fn read(words: &[String]) -> Option<CacheChoice> {
-        match words {
-            [kind, width, height, pages] if kind.as_str() == "shelf" => Some(CacheChoice::Shelf(
-                width.as_str().parse::<u16>().ok()?,
-                height.as_str().parse::<u16>().ok()?,
+// The first choice among the words, and how many words it takes; none where they begin with no cache.
+fn first_of(words: &[String]) -> Option<(CacheChoice, usize)> {
+    match words {
+        [kind, width, height, pages, ..] if kind.as_str() == "shelf" => {
+            let shelf = CacheChoice::Shelf(
+                width.as_str().parse::<u32>().ok()?,
+                height.as_str().parse::<u32>().ok()?,
                 pages.as_str().parse::<u32>().ok()?,
-            )),
-            [kind, side, pages] if kind.as_str() == "grid" => Some(CacheChoice::Grid(
+            );
+            Some((shelf, 4))
+        }
+        [kind, side, pages, ..] if kind.as_str() == "grid" => {
+            let grid = CacheChoice::Grid(
                 side.as_str().parse::<u16>().ok()?,
                 pages.as_str().parse::<u32>().ok()?,
-            )),
-            _ => None,
+            );
+            Some((grid, 3))
         }
+        _ => None,
+    }
+}
+
+impl CacheChoice {
+    // Each `shelf WIDTH HEIGHT PAGES` or `grid SIDE PAGES`; none where some word is of neither.
+    pub fn read_all(
+        heap: Global,
+        words: &[String],
+    ) -> Result<Option<Vec<CacheChoice>>, AllocError> {
+        let mut choices = Vec::new(heap);
+        let mut next = 0;
+        for i in 0..words.len() {
+            if i == next {
+                let Some((choice, taken)) = first_of(&words[i..]) else {
+                    return Ok(None);
+                };
+                choices.push(choice)?;
+                next = i.saturating_add(taken);
+            }
+        }
+        Ok(Some(choices))
     }
 }
 

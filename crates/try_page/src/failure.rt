@@ -28,7 +28,9 @@ pub impl fmt::Display for Failure as FailureDisplay {
         match self {
             Failure::Arguments(error) => write!(f, "cannot read its arguments: {error}"),
             Failure::Open(path, error) => write!(f, "cannot open {path}: {error}"),
-            Failure::Cache => f.write_str("a cache is `shelf WIDTH HEIGHT PAGES` or `grid SIDE PAGES`"),
+            Failure::Cache => f.write_str(
+                "a cache is `shelf WIDTH HEIGHT PAGES` or `grid SIDE PAGES`",
+            ),
             Failure::Stopped(error) => write!(f, "stopped before the end of the page: {error}"),
         }
     }

@@ -28,7 +28,8 @@ use grid_cache::grid::Grid;
 use grid_cache::images::GridCache;
 use image_cache::fault::CacheFault;
 use image_cache::fault::CacheFaultDisplay;
-use image_cache::cache::ImageCache;
+use shelf_cache::images::ShelfCache;
+use shelf_cache::shelves::Shelves;
 use std::env;
 use std::fs;
 use std::fs::File;
@@ -50,7 +51,10 @@ fn refused(rt: &LibcRuntime, fault: CacheFault) -> io::Result<()> {
 fn pack_onto(rt: &LibcRuntime, choice: CacheChoice, pictures: &[Picture]) -> io::Result<()> {
     println!(rt, "{choice}")?;
     match choice {
-        CacheChoice::Shelf(_, _, _) => Ok(()),
+        CacheChoice::Shelf(width, height, pages) => match Shelves::new(width, height, pages) {
+            Ok(mut cache) => pack(rt, &mut cache, pictures),
+            Err(fault) => refused(rt, fault),
+        },
         CacheChoice::Grid(side, pages) => match Grid::new(side, pages) {
             Ok(mut cache) => pack(rt, &mut cache, pictures),
             Err(fault) => refused(rt, fault),
@@ -69,13 +73,12 @@ fn run(rt: &LibcRuntime) -> Result<(), Failure> {
         None => try_page(rt, rt.stdin())?,
     };
     let words: Vec<String> = args.collect(rt.alloc())?;
-    if words.is_empty() {
-        return Ok(());
-    }
-    let Some(choice) = CacheChoice::read(words.as_slice()) else {
+    let Some(choices) = CacheChoice::read_all(rt.alloc(), words.as_slice())? else {
         return Err(Failure::Cache);
     };
-    pack_onto(rt, choice, page.pictures.as_slice())?;
+    for choice in choices.iter() {
+        pack_onto(rt, *choice, page.pictures.as_slice())?;
+    }
     Ok(())
 }
 

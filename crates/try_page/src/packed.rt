@@ -41,7 +41,10 @@ fn print_place(
             let y = image.y;
             let w = image.w;
             let h = image.h;
-            println!(rt, "line {line}: {name}: page {page}, at {x} {y}, {w} x {h}")
+            println!(
+                rt,
+                "line {line}: {name}: page {page}, at {x} {y}, {w} x {h}"
+            )
         }
         Err(fault) => {
             let number = fault.number();

@@ -39,7 +39,7 @@ same-cell : (i j : ℕ) → i / 64 ≡ j / 64 → i % 8 ≡ j % 8 → i % 64 / 8
 same-cell i j p q r = omega arith
 
 -- what is said by an image that is there or not, by a test
-there-by : (b : Bool) (x a : Image) → cond b (Some x) None ≡ Some a → (b ≡ true) × (a ≡ x)
+pub there-by : (b : Bool) (x a : Image) → cond b (Some x) None ≡ Some a → (b ≡ true) × (a ≡ x)
 there-by true x a h = (refl, cc)
 there-by false x a h = let z : _≡_ {A = ℕ} 0 1 = cc in absurd (omega arith)
 

@@ -1,28 +1,26 @@
 -- What an image that comes or goes changes of the cache's meaning: that image alone.
 use mathlib.Core.Path.{_≡_, refl, sym, ap, subst, _∙_}
-use mathlib.Core.Bool.{Bool, true, false}
+use mathlib.Core.Bool.{true}
 use mathlib.Core.List.{List}
-use mathlib.Core.Logic.{_⊎_, inl, inr, ⊎-elim}
-use Prim.Native.Nat.{ℕ, _+_, _-_, _≤_, _<_}
+use mathlib.Core.Logic.{⊎-elim}
+use Prim.Native.Nat.{ℕ, _+_, _-_, _<_}
 use native.Mathlib.Omega.{arith}
-use lib.ListN.{length, getD, set}
+use lib.ListN.{length, set}
 use Rattle.std.proofs.shelf.Lists.{getD-set-same, getD-set-other}
 use Rattle.std.proofs.shelf.Tests.{cases-lt}
-use Rattle.std.specs.declared.option.Option.{Option}
-use Rattle.std.specs.declared.option.Option.the-variants.{None, Some}
-use Rattle.image_cache.specs.Caches.{Cache, Added, Removed, Same-sizes}
-use Rattle.image_cache.specs.declared.image.Image.{Image}
+use Rattle.std.specs.declared.option.Option.the-variants.{Some}
+use Rattle.image_cache.specs.Caches.{Added, Removed}
 use Rattle.shelf_cache.specs.declared.shelf.Shelf.{Shelf}
 use Rattle.shelf_cache.specs.declared.shelf.Spot.{Spot}
 use Rattle.shelf_cache.specs.Rows.{no-spot, spot-at}
 use Rattle.shelf_cache.specs.Places.{live-of, image-of, left-of, cache-of}
-use Rattle.shelf_cache.specs.Sound.{Sound, Twins}
+use Rattle.shelf_cache.specs.Sound.{Sound}
 use Rattle.shelf_cache.proofs.Moves.{was, was-live, was-other, moved-is, kept-at}
 use Rattle.shelf_cache.proofs.Names.{Unnamed, live-when, dead-when, same-live}
 
-module _ (width height count : ℕ) (shelves shelves′ : List Shelf) (spots : List Spot) (live : ℕ) (S : Sound width height count shelves spots live) where
+module _ (width height count : ℕ) (shelves shelves′ : List Shelf) (standing standing′ : List ℕ) (spots : List Spot) (live : ℕ) (S : Sound width height count shelves standing spots live) where
   -- the image a comes, with the first id that is free
-  module _ (l : live < length spots) (a : Spot) (own : a .id ≡ spot-at spots live .id) (S′ : Sound width height count shelves′ (set spots live a) (live + 1)) where
+  module _ (l : live < length spots) (a : Spot) (own : a .id ≡ spot-at spots live .id) (S′ : Sound width height count shelves′ standing′ (set spots live a) (live + 1)) where
     unnamed : Unnamed spots live (a .id)
     unnamed j m e = let q = S .single j live (record { one = omega (arith, S .few); other = omega (arith, S′ .few); same = e ∙ own }) in omega arith
 
@@ -32,8 +30,8 @@ module _ (width height count : ℕ) (shelves shelves′ : List Shelf) (spots : L
     pub live-here : live-of (set spots live a) (live + 1) (a .id) ≡ Some (image-of a)
     live-here = live-when (set spots live a) (live + 1) (S′ .few) (S′ .single) (a .id) live (omega arith) (ap (λ (b : Spot). b .id) here) ∙ ap (λ (b : Spot). Some (image-of b)) here
 
-    pub added-is : cache-of width height count shelves spots live .fits (a .w) (a .h) ≡ true
-        → Added (cache-of width height count shelves spots live) (a .w) (a .h) (a .id) (cache-of width height count shelves′ (set spots live a) (live + 1))
+    pub added-is : cache-of width height count shelves standing spots live .fits (a .w) (a .h) ≡ true
+        → Added (cache-of width height count shelves standing spots live) (a .w) (a .h) (a .id) (cache-of width height count shelves′ standing′ (set spots live a) (live + 1))
     added-is f = record {
       fitted = f;
       fresh = dead-when spots live (a .id) unnamed;
@@ -50,7 +48,7 @@ module _ (width height count : ℕ) (shelves shelves′ : List Shelf) (spots : L
     }
 
   -- the image at k goes
-  module _ (i k : ℕ) (n : length spots ≡ 256) (kl : k < live) (e : spot-at spots k .id ≡ i) (S′ : Sound width height count shelves′ (left-of spots k) (live - 1)) where
+  module _ (i k : ℕ) (n : length spots ≡ 256) (kl : k < live) (e : spot-at spots k .id ≡ i) (S′ : Sound width height count shelves′ standing′ (left-of spots k) (live - 1)) where
     k₁ : k < 256
     k₁ = omega (arith, S .few)
 
@@ -61,7 +59,7 @@ module _ (width height count : ℕ) (shelves shelves′ : List Shelf) (spots : L
     was-at : (j : ℕ) → j < live - 1 → spot-at (left-of spots k) j ≡ spot-at spots (was k j)
     was-at j l = moved-is spots k n k₁ j (omega (arith, S .few))
 
-    pub removed-is : Removed (cache-of width height count shelves spots live) i (cache-of width height count shelves′ (left-of spots k) (live - 1))
+    pub removed-is : Removed (cache-of width height count shelves standing spots live) i (cache-of width height count shelves′ standing′ (left-of spots k) (live - 1))
     removed-is = record {
       image = image-of (spot-at spots k);
       was = live-when spots live (S .few) (S .single) i k kl e;

@@ -1,19 +1,17 @@
 -- Images by their ids: which image an id means, and when it means the same in two tables.
-use mathlib.Core.Path.{_≡_, refl, sym, ap, subst, _∙_}
-use mathlib.Core.Bool.{Bool, true, false}
+use mathlib.Core.Path.{_≡_, sym, ap, subst, _∙_}
+use mathlib.Core.Bool.{false}
 use mathlib.Core.List.{List}
-use mathlib.Core.Logic.{_⊎_, inl, inr, ⊎-elim}
-use Prim.Native.Nat.{ℕ, _≤_, _<_}
+use Prim.Native.Nat.{ℕ, _<_}
 use native.Mathlib.Omega.{arith}
-use lib.Dec.{eqb}
 use Rattle.std.specs.Options.{mapped}
-use Rattle.std.proofs.shelf.Tests.{cases-bool, both-ways, eqb-true, eq-eqb, ne-eqb}
+use Rattle.std.proofs.shelf.Tests.{both-ways, eqb-true, eq-eqb, ne-eqb}
 use Rattle.std.specs.declared.option.Option.{Option}
 use Rattle.std.specs.declared.option.Option.the-variants.{None, Some}
 use Rattle.image_cache.specs.declared.image.Image.{Image}
 use Rattle.shelf_cache.specs.declared.shelf.Spot.{Spot}
 use Rattle.shelf_cache.specs.Rows.{spot-at, first-below, FirstBelow}
-use Rattle.shelf_cache.specs.Sound.{Few, Single, Twins}
+use Rattle.shelf_cache.specs.Sound.{Few, Single}
 use Rattle.shelf_cache.specs.Places.{image-of, has-at, live-of}
 use Rattle.shelf_cache.proofs.First.{first-none, first-some, first-spec}
 

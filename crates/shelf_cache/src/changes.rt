@@ -1,7 +1,7 @@
 // An image comes, or goes.
 ghost use mathlib.Core.Path.{_≡_};
 ghost use Prim.Native.Nat.{_<_};
-ghost use Rattle.std.specs.declared.option.Option.the-variants.{Some as There};
+ghost use Rattle.std.specs.declared.option.Option.the-variants.{Some};
 ghost use Rattle.image_cache.specs.Caches.{Added, Removed};
 ghost use Rattle.shelf_cache.specs.Rows.{spot-at};
 ghost use Rattle.shelf_cache.specs.Places.{shelf-cache, place-for, FitIn, PutAt, LeftBy};
@@ -9,19 +9,22 @@ use crate::shelf::Place;
 use crate::shelves::Shelves;
 use crate::steps::spot_on;
 use crate::steps::with_image;
+use crate::steps::with_shelf;
 use crate::steps::without_image;
-use crate::tables::lower;
+use crate::tables::left_standing;
 use crate::tables::retire;
 
 impl Shelves {
     // Puts an image where it goes, under the first id that is free.
     pub(crate) fn put(&mut self, place: Place, w: u16, h: u16) -> u32
-        requires chosen { ⌜ place-for (now self) w h ≡ There place ⌝ }
+        requires chosen { ⌜ place-for (now self) w h ≡ Some place ⌝ }
         requires fit { ⌜ FitIn (now self) w h place ⌝ }
         ensures adds { λ r. ⌜ Added (shelf-cache (now (self .entry))) w h r (shelf-cache (now (self .exit))) ⌝ }
         ensures put { λ r. ⌜ PutAt (now (self .entry)) w h r (now (self .exit)) ⌝ }
     {
         let id = self.spots[self.live].id;
+        let page = place.at / 16;
+        self.standing[page] = with_shelf(self.standing[page], place.at % 16);
         self.shelves[place.at] = with_image(place.shelf, w);
         self.spots[self.live] = spot_on(id, place, w, h);
         self.live += 1;
@@ -40,6 +43,6 @@ impl Shelves {
         retire(&mut self.spots, k);
         self.live -= 1;
         self.shelves[at] = shelf;
-        lower(&mut self.shelves, at / 16);
+        self.standing[at / 16] = left_standing(&self.shelves, at / 16, self.standing[at / 16]);
     }
 }

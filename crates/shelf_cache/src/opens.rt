@@ -23,12 +23,14 @@ impl Shelves {
             used: 0,
             images: 0,
         }; 64];
+        let standing = [0; 4];
         let spots = free_spots();
         Shelves {
             width,
             height,
             count,
             shelves,
+            standing,
             spots,
             live: 0,
         }

@@ -1,28 +1,35 @@
 // Where the next image goes.
 ghost use mathlib.Core.Path.{_≡_};
 ghost use Rattle.std.specs.Slices.{found};
-ghost use Rattle.shelf_cache.specs.Places.{takes-at, opens-at, Chosen, place-for, FitIn};
+ghost use Rattle.shelf_cache.specs.Places.{ChosenIn, place-for, FitIn};
 use crate::shelf::Choice;
 use crate::shelf::Place;
 use crate::shelf::Shelf;
 use crate::shelves::Shelves;
 use crate::steps::choose;
 use crate::steps::end_of;
-use crate::steps::has_room;
 use crate::steps::is_open;
 use crate::steps::or_here;
+use crate::steps::takes_image;
 
 impl Shelves {
     // The first shelf that takes the image, else the first place for a new one: one pass, by page and then from the top.
     pub(crate) fn look(&self, w: u16, h: u16) -> Choice
-        ensures { λ r. ⌜ Chosen (takes-at (now (self .entry) .width) w h (now (self .entry) .shelves)) (opens-at (now (self .entry) .count) (now (self .entry) .height) h (now (self .entry) .shelves)) 64 r ⌝ }
+        ensures { λ r. ⌜ ChosenIn (now (self .entry)) w h r ⌝ }
     {
         let mut opening = None;
         for at in 0..64 {
-            if has_room(self.shelves[at], self.width, w, h) {
+            if takes_image(&self.shelves, &self.standing, at, self.width, w, h) {
                 return choose(Some(at), opening);
             }
-            let opens = is_open(&self.shelves, at, self.count, self.height, h);
+            let opens = is_open(
+                &self.shelves,
+                &self.standing,
+                at,
+                self.count,
+                self.height,
+                h,
+            );
             opening = or_here(opening, at, opens);
         }
         choose(None, opening)

@@ -3,9 +3,9 @@ ghost use mathlib.Core.Path.{_≡_};
 ghost use mathlib.Core.Bool.{cond};
 ghost use Prim.Native.Nat.{_+_, _≤_, _<_};
 ghost use lib.ListN.{length};
-ghost use Rattle.std.specs.declared.option.Option.the-variants.{None, Some as Found};
+ghost use Rattle.std.specs.declared.option.Option.the-variants.{None, Some};
 ghost use Rattle.shelf_cache.specs.Rows.{or-else};
-ghost use Rattle.shelf_cache.specs.Places.{takes, end-above, opens-at, choice-of, filled, put-on, image-of, eased, vanished};
+ghost use Rattle.shelf_cache.specs.Places.{takes, takes-at, end-above, opens-at, choice-of, filled, put-on, image-of, eased, reach};
 use crate::shelf::Choice;
 use crate::shelf::Place;
 use crate::shelf::Shelf;
@@ -31,15 +31,34 @@ pub(crate) fn end_of(shelves: &[Shelf], at: usize) -> u32
     above.top as u32 + above.height as u32
 }
 
-// Whether a shelf of height h can be opened at that place: below the last shelf of a page, with that height left.
-pub(crate) fn is_open(shelves: &[Shelf], at: usize, count: u32, height: u16, h: u16) -> bool
-    requires { ⌜ at < length (now shelves) ⌝ }
-    ensures { λ r. ⌜ r ≡ opens-at count height h (now (shelves .entry)) at ⌝ }
+// Whether a shelf stands at that place and takes the image.
+pub(crate) fn takes_image(
+    shelves: &[Shelf; 64],
+    standing: &[usize; 4],
+    at: usize,
+    width: u16,
+    w: u16,
+    h: u16,
+) -> bool
+    requires { ⌜ at < 64 ⌝ }
+    ensures { λ r. ⌜ r ≡ takes-at width w h (now (shelves .entry)) (now (standing .entry)) at ⌝ }
 {
-    if at >= 16 * count as usize || shelves[at].height != 0 {
-        return false;
-    }
-    if at % 16 != 0 && shelves[at - 1].height == 0 {
+    at % 16 < standing[at / 16] && has_room(shelves[at], width, w, h)
+}
+
+// Whether a shelf of height h can be opened at that place: below the last shelf of a page, with that height left.
+pub(crate) fn is_open(
+    shelves: &[Shelf; 64],
+    standing: &[usize; 4],
+    at: usize,
+    count: u32,
+    height: u16,
+    h: u16,
+) -> bool
+    requires { ⌜ at < 64 ⌝ }
+    ensures { λ r. ⌜ r ≡ opens-at count height h (now (shelves .entry)) (now (standing .entry)) at ⌝ }
+{
+    if at >= 16 * count as usize || at % 16 != standing[at / 16] {
         return false;
     }
     end_of(shelves, at) as u64 + h as u64 <= height as u64
@@ -47,7 +66,7 @@ pub(crate) fn is_open(shelves: &[Shelf], at: usize, count: u32, height: u16, h: 
 
 // The place found earlier, else this one where it passes.
 pub(crate) fn or_here(found: Option<usize>, at: usize, passes: bool) -> Option<usize>
-    ensures { λ r. ⌜ r ≡ or-else found (cond passes (Found at) None) ⌝ }
+    ensures { λ r. ⌜ r ≡ or-else found (cond passes (Some at) None) ⌝ }
 {
     if found.is_some() || !passes {
         found
@@ -124,14 +143,10 @@ pub(crate) fn without_image(shelf: Shelf) -> Shelf
     }
 }
 
-// The shelf is not there any more.
-pub(crate) fn without_height(shelf: Shelf) -> Shelf
-    ensures { λ r. ⌜ r ≡ vanished shelf ⌝ }
+// How many shelves a page has with one at place k: one more where that is the next.
+pub(crate) fn with_shelf(n: usize, k: usize) -> usize
+    requires { ⌜ k < 16 ⌝ }
+    ensures { λ r. ⌜ r ≡ reach n k ⌝ }
 {
-    Shelf {
-        top: shelf.top,
-        height: 0,
-        used: shelf.used,
-        images: shelf.images,
-    }
+    if k < n { n } else { k + 1 }
 }

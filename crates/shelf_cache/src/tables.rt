@@ -1,12 +1,10 @@
 // What changes more than one shelf or one spot of a table.
 ghost use mathlib.Core.Path.{_≡_};
-ghost use Prim.Native.Nat.{_+_, _*_, _≤_, _<_};
-ghost use lib.ListN.{length};
+ghost use Prim.Native.Nat.{_≤_, _<_};
 ghost use Rattle.shelf_cache.specs.Sound.{Lowered};
 ghost use Rattle.shelf_cache.specs.Places.{left-of, Numbered};
 use crate::shelf::Shelf;
 use crate::shelf::Spot;
-use crate::steps::without_height;
 use lists::close::close_up;
 
 // No image, and the ids 0 to 255 free.
@@ -37,15 +35,15 @@ pub(crate) fn retire(spots: &mut [Spot; 256], k: usize)
     spots[255] = gone;
 }
 
-// The empty lowest shelves of the page vanish.
-pub(crate) fn lower(shelves: &mut [Shelf], page: usize)
-    requires { ⌜ 16 * page + 16 ≤ length (now shelves) ⌝ }
-    ensures { λ _. ⌜ Lowered page (now (shelves .entry)) (now (shelves .exit)) ⌝ }
+// How many of the n shelves of the page are left, once the empty lowest ones are gone.
+pub(crate) fn left_standing(shelves: &[Shelf; 64], page: usize, n: usize) -> usize
+    requires { ⌜ page < 4 ⌝ ∗ ⌜ n ≤ 16 ⌝ }
+    ensures { λ r. ⌜ Lowered (now (shelves .entry)) page n r ⌝ }
 {
-    for at in (16 * page..16 * page + 16).rev() {
-        if shelves[at].used != 0 {
-            return;
+    for k in (0..n).rev() {
+        if shelves[16 * page + k].used != 0 {
+            return k + 1;
         }
-        shelves[at] = without_height(shelves[at]);
     }
+    0
 }

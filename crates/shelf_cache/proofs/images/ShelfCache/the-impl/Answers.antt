@@ -4,4 +4,4 @@ use Rattle.shelf_cache.proofs.Whole.{sound-of}
 use Rattle.shelf_cache.proofs.images.ShelfCache.the-impl.Needs as need
 
 pub lawful-law : need.lawful-law
-lawful-law c = lawful (c .width) (c .height) (c .count) (c .shelves) (c .spots) (c .live) (sound-of c)
+lawful-law c = lawful (c .width) (c .height) (c .count) (c .shelves) (c .standing) (c .spots) (c .live) (sound-of c)

@@ -16,16 +16,16 @@ pub loop-at-again : need.loop-at-again
 loop-at-again c =
     let g = c .args .self .now in
     let i = c .loop-at .at in (
-      below-more (λ k. takes-at (g .width) (c .args .w) (c .args .h) (g .shelves) k ≡ false) i (c .loop-at .inv .0) (sym (c .has-room .ensures) ∙ c .if-has-room .left),
-      first-more (opens-at (g .count) (g .height) (c .args .h) (g .shelves)) i (c .loop-at .opening) (c .or-here-opening .result) (c .is-open-opens .result) (c .is-open-opens .ensures) (c .or-here-opening .ensures) (c .loop-at .inv .1),
+      below-more (λ k. takes-at (g .width) (c .args .w) (c .args .h) (g .shelves) (g .standing) k ≡ false) i (c .loop-at .inv .0) (sym (c .takes-image .ensures) ∙ c .if-takes-image .left),
+      first-more (opens-at (g .count) (g .height) (c .args .h) (g .shelves) (g .standing)) i (c .loop-at .opening) (c .or-here-opening .result) (c .is-open-opens .result) (c .is-open-opens .ensures) (c .or-here-opening .ensures) (c .loop-at .inv .1),
     )
 
-pub returns-then-has-room : need.returns-then-has-room
-returns-then-has-room c =
+pub returns-then-takes-image : need.returns-then-takes-image
+returns-then-takes-image c =
     let g = c .args .self .now in
-    let taking = takes-at (g .width) (c .args .w) (c .args .h) (g .shelves) in
-    let P : Choice → Type 0 = Chosen taking (opens-at (g .count) (g .height) (c .args .h) (g .shelves)) 64 in
-    subst P (sym (c .choose .ensures)) (omega arith, sym (c .has-room .ensures) ∙ c .if-has-room .taken, c .loop-at .inv .0)
+    let taking = takes-at (g .width) (c .args .w) (c .args .h) (g .shelves) (g .standing) in
+    let P : Choice → Type 0 = Chosen taking (opens-at (g .count) (g .height) (c .args .h) (g .shelves) (g .standing)) 64 in
+    subst P (sym (c .choose .ensures)) (omega arith, sym (c .takes-image .ensures) ∙ c .if-takes-image .taken, c .loop-at .inv .0)
 
 chosen-new : (taking opening : ℕ → Bool) (n : ℕ) (o : Option ℕ) → FirstBelow taking n None → FirstBelow opening n o → Chosen taking opening n (choice-of None o)
 chosen-new taking opening n None f g = (f, g)
@@ -34,8 +34,8 @@ chosen-new taking opening n (Some s) f g = (f, g)
 pub returns : need.returns
 returns c =
     let g = c .args .self .now in
-    let taking = takes-at (g .width) (c .args .w) (c .args .h) (g .shelves) in
-    let opening = opens-at (g .count) (g .height) (c .args .h) (g .shelves) in
+    let taking = takes-at (g .width) (c .args .w) (c .args .h) (g .shelves) (g .standing) in
+    let opening = opens-at (g .count) (g .height) (c .args .h) (g .shelves) (g .standing) in
     let P : Choice → Type 0 = Chosen taking opening 64 in
     let Q : ℕ → Type 0 = λ n. FirstBelow opening n (c .loop-at .opening) in
     let e : c .loop-at .at ≡ 64 = omega arith in

@@ -8,5 +8,5 @@ use Rattle.shelf_cache.proofs.shelves.Shelves.look.Given as given
 
 abbrev pub Inv-loop-at : given.InvT-loop-at
 Inv-loop-at l =
-    ((k : ℕ) → k < l .at → takes-at (l .self .width) (l .w) (l .h) (l .self .shelves) k ≡ false)
-    × FirstBelow (opens-at (l .self .count) (l .self .height) (l .h) (l .self .shelves)) (l .at) (l .opening)
+    ((k : ℕ) → k < l .at → takes-at (l .self .width) (l .w) (l .h) (l .self .shelves) (l .self .standing) k ≡ false)
+    × FirstBelow (opens-at (l .self .count) (l .self .height) (l .h) (l .self .shelves) (l .self .standing)) (l .at) (l .opening)

@@ -70,7 +70,9 @@ def bucket(x):
 
 
 def narrow(size, numbers):
-    print("narrow", word32(size), *map(word64, numbers))
+    """For an outline's key and for a bitmap's."""
+    for kind in "ob":
+        print("narrow", kind, word32(size), *map(word64, numbers))
 
 
 def metrics(box, scale=1.0):

@@ -757,7 +757,11 @@ impl Words<'_> {
     fn vector(&mut self) -> Option<Vector> {
         match self.0.next()? {
             "bucket" => Some(Vector::Bucket(self.f32()?)),
-            "narrow" => Some(Vector::Narrow(self.f32()?, self.embolden()?)),
+            "narrow" => {
+                // The same numbers go into a key of either kind.
+                self.kind()?;
+                Some(Vector::Narrow(self.f32()?, self.embolden()?))
+            }
             "metrics" => Some(Vector::Metrics(self.rect()?, self.f64()?)),
             "bitmap" => Some(Vector::Bitmap(self.size()?, self.size()?)),
             "supports" => Some(Vector::Supports(self.kind()?, self.linear()?)),

@@ -32,7 +32,7 @@ finite-shape (Color c) = finite-color c
 
 abbrev pub answer-of : Vector → Answer
 answer-of (Bucket x) = answer.Bucket (bucketOf x)
-answer-of (Narrow p) = answer.Narrow (bits-asked p)
+answer-of (Narrow g p) = answer.Narrow (bits-asked p)
 answer-of (Metrics o) = answer.Metrics (metrics-of (glyph.Outline o))
 answer-of (Bitmap b) = answer.Bitmap (metrics-of (glyph.Bitmap b))
 answer-of (Supports g t) = answer.Supports (supported g t)

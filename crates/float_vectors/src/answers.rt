@@ -26,10 +26,13 @@ pub enum Answer {
 }
 
 // The numbers of the key at fraction 0 and with no axis values.
-fn narrowed(parts: KeyParts) -> Result<KeyBits, KeyFault>
+fn narrowed(kind: Glyph, parts: KeyParts) -> Result<KeyBits, KeyFault>
     ensures { λ r. ⌜ r ≡ bits-asked parts ⌝ }
 {
-    let key = GlyphCacheKey::for_outline(parts, 0.0, &[])?;
+    let key = match kind {
+        Glyph::Outline(_) => GlyphCacheKey::for_outline(parts, 0.0, &[])?,
+        Glyph::Bitmap(_) => GlyphCacheKey::for_bitmap(parts, &[])?,
+    };
     Ok(key.bits())
 }
 
@@ -49,7 +52,7 @@ pub fn answer_to(vector: Vector) -> Answer
 {
     match vector {
         Vector::Bucket(fraction) => Answer::Bucket(quantize_subpixel(fraction)),
-        Vector::Narrow(parts) => Answer::Narrow(narrowed(parts)),
+        Vector::Narrow(kind, parts) => Answer::Narrow(narrowed(kind, parts)),
         Vector::Metrics(outline) => {
             Answer::Metrics(calculate_raster_metrics(Glyph::Outline(outline)))
         }

@@ -183,7 +183,10 @@ fn next_shape(words: &mut SplitWhitespace<'_>) -> Option<Shape> {
 fn next_vector(words: &mut SplitWhitespace<'_>) -> Option<Vector> {
     match words.next()? {
         "bucket" => Some(Vector::Bucket(next_f32(words)?)),
-        "narrow" => Some(Vector::Narrow(next_key_parts(words)?)),
+        "narrow" => {
+            let kind = next_kind(words)?;
+            Some(Vector::Narrow(kind, next_key_parts(words)?))
+        }
         "metrics" => Some(Vector::Metrics(next_outline(words)?)),
         "bitmap" => Some(Vector::Bitmap(next_bitmap(words)?)),
         "supports" => {

@@ -19,7 +19,7 @@ pub enum Shape {
 #[derive(Clone, Copy)]
 pub enum Vector {
     Bucket(f32),
-    Narrow(KeyParts),
+    Narrow(Glyph, KeyParts),
     Metrics(GlyphOutline),
     Bitmap(GlyphBitmap),
     Supports(Glyph, Affine),

@@ -16,6 +16,7 @@ use Rattle.raster.specs.declared.glyph.Glyph.the-variants.{Outline, Bitmap}
 use Rattle.raster.specs.Faults.{raster-number}
 use Rattle.raster.specs.Metric.{metrics-of}
 use Rattle.raster.specs.Supported.{supported}
+use Rattle.cases.specs.Cells.{Lists, Cells}
 
 -- 0.125, 0.875, -0.25, NaN; both infinities; -0.375, whose sum with 1 is a tie and goes up
 -- and -(0.375 + 2 ^ -25), whose sum with 1 an f32 rounds to 0.625, so that it gives 3; exactly it would be 2
@@ -73,4 +74,4 @@ Sizes =
     × (refused-with raster-number (metrics-of (Outline (record { path = record { handle = 0; bounds = wide (fin false 1 (pos 1023)) }; scale = fin false 1 (pos 1) }))) ≡ Some 5)
 
 abbrev pub Cases : Type 0
-Cases = Buckets × Transforms × Sizes
+Cases = Buckets × Transforms × Sizes × Lists × Cells

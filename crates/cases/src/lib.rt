@@ -1,4 +1,4 @@
-// The worked cases of keys, transforms and metrics: as one statement on the definitions, and run by the code.
+// The worked cases of keys, transforms, metrics, lists and cells: as one statement on the definitions, and run by the code.
 ghost use mathlib.Core.Path.{_≡_};
 ghost use mathlib.Core.Bool.{true};
 ghost use Rattle.std.specs.declared.result.Result.the-variants.{Ok};
@@ -6,6 +6,7 @@ ghost use Rattle.std.specs.declared.option.Option.the-variants.{Some};
 ghost use Rattle.shapes.specs.Answers.{refused-with};
 ghost use Rattle.raster.specs.Faults.{raster-number};
 ghost use Rattle.cases.specs.Cases.{Buckets, Transforms, Sizes, Cases, outline};
+use crate::cells::cells_hold;
 use glyph_key::bucket::quantize_subpixel;
 use raster::fault::RasterFault;
 use raster::glyph::Glyph;
@@ -16,6 +17,8 @@ use raster::transform::supports_atlas_caching;
 use shapes::Affine;
 use shapes::Path;
 use shapes::Rect;
+
+mod cells;
 
 fn buckets_hold() -> bool
     ensures cases { λ _. ⌜ Buckets ⌝ }
@@ -105,5 +108,5 @@ pub fn cases_hold() -> bool
     ensures cases { λ _. ⌜ Cases ⌝ }
     ensures run { λ r. ⌜ r ≡ true ⌝ }
 {
-    buckets_hold() & transforms_hold() & sizes_hold()
+    buckets_hold() & transforms_hold() & sizes_hold() & cells_hold()
 }

@@ -1,22 +1,21 @@
 -- A grid is a lawful image cache.
 use mathlib.Core.Path.{_≡_, refl, sym, ap, subst, _∙_}
 use mathlib.Core.Bool.{Bool, true, false, not, cond, _&&_}
-use mathlib.Core.List.{List, [], _∷_}
+use mathlib.Core.List.{List}
 use mathlib.Core.Logic.{⊎-elim}
 use Prim.Native.Nat.{ℕ, _+_, _*_, _/_, _%_, _^_, _≤_, _<_}
 use native.Mathlib.Omega.{arith}
 use native.Mathlib.Nat.{mul-le-mul-right, add-mul, one-mul}
-use lib.Dec.{eqb, ltb, leb, lit<}
+use lib.Dec.{ltb, leb, lit<}
 use lib.ListN.{getD}
-use Rattle.std.proofs.shelf.Tests.{cases-eq, cases-bool, cases-order, ltb-true, lt-ltb, le-leb, and-parts, and-from, and-left, and-right, not-false}
+use Rattle.std.proofs.shelf.Tests.{cases-eq, cases-order, ltb-true, lt-ltb, le-leb, and-parts, and-from, and-left, and-right, not-false}
 use Rattle.std.specs.declared.option.Option.{Option}
 use Rattle.std.specs.declared.option.Option.the-variants.{None, Some}
-use Rattle.image_cache.specs.Caches.{Cache, Pixel, In, Inside, Empty, Lawful}
+use Rattle.image_cache.specs.Caches.{Pixel, In, Inside, Empty, Lawful}
 use Rattle.image_cache.specs.declared.image.Image.{Image}
 use Rattle.grid_cache.specs.declared.size.Size.{Size}
 use Rattle.grid_cache.specs.Sizes.{no-size}
-use Rattle.grid_cache.specs.Cells.{bit, is-free, is-taken, image-at, size-fits, any-free, fits-in, cache-of}
-use Rattle.grid_cache.proofs.Bits.{zero-bit}
+use Rattle.grid_cache.specs.Cells.{bit, is-free, is-taken, image-at, size-fits, any-free, cache-of}
 use Rattle.grid_cache.proofs.Rooms.{some-free}
 
 -- one cell before another, along a side
@@ -39,20 +38,18 @@ one-band a b c w v x wc vc al ar bl br =
 same-cell : (i j : ℕ) → i / 64 ≡ j / 64 → i % 8 ≡ j % 8 → i % 64 / 8 ≡ j % 64 / 8 → i ≡ j
 same-cell i j p q r = omega arith
 
+-- what is said by an image that is there or not, by a test
+pub there-by : (b : Bool) (x a : Image) → cond b (Some x) None ≡ Some a → (b ≡ true) × (a ≡ x)
+there-by true x a h = (refl, cc)
+there-by false x a h = let z : _≡_ {A = ℕ} 0 1 = cc in absurd (omega arith)
+
+absent-by : (b : Bool) (x : Image) → cond b (Some x) None ≡ None → b ≡ false
+absent-by true x h = let z : _≡_ {A = ℕ} 0 1 = cc in absurd (omega arith)
+absent-by false x h = refl
+
 -- what a live image is
 live-is : (cell count : ℕ) (words : List ℕ) (sizes : List Size) (i : ℕ) (a : Image) → cache-of cell count words sizes .live i ≡ Some a → (is-taken count words i ≡ true) × (a ≡ image-at cell sizes i)
-live-is cell count words sizes i a h =
-    ⊎-elim
-    (λ t. let e : cache-of cell count words sizes .live i ≡ Some (image-at cell sizes i) = ap (λ b. cond b (Some (image-at cell sizes i)) None) t in (t, cc))
-    (λ f. let e : cache-of cell count words sizes .live i ≡ None = ap (λ b. cond b (Some (image-at cell sizes i)) None) f in let z : _≡_ {A = ℕ} 0 1 = cc in absurd (omega arith))
-    (cases-bool (is-taken count words i))
-
-not-live-is : (cell count : ℕ) (words : List ℕ) (sizes : List Size) (i : ℕ) → cache-of cell count words sizes .live i ≡ None → is-taken count words i ≡ false
-not-live-is cell count words sizes i h =
-    ⊎-elim
-    (λ t. let e : cache-of cell count words sizes .live i ≡ Some (image-at cell sizes i) = ap (λ b. cond b (Some (image-at cell sizes i)) None) t in let z : _≡_ {A = ℕ} 0 1 = cc in absurd (omega arith))
-    (λ f. f)
-    (cases-bool (is-taken count words i))
+live-is cell count words sizes i a h = there-by (is-taken count words i) (image-at cell sizes i) a h
 
 taken-below : (count : ℕ) (words : List ℕ) (i : ℕ) → is-taken count words i ≡ true → i < 64 * count
 taken-below count words i t = ltb-true i (64 * count) (and-parts (ltb i (64 * count)) (not (is-free words i)) t .0)
@@ -77,7 +74,7 @@ module _ (cell count : ℕ) (words : List ℕ) (sizes : List Size)
 -- the cell 0 is free where no image is live
 cell-0-free : (cell count : ℕ) (words : List ℕ) (sizes : List Size) → 1 ≤ count → Empty (cache-of cell count words sizes) → is-free words 0 ≡ true
 cell-0-free cell count words sizes some none =
-    let t = not-live-is cell count words sizes 0 (none 0) in
+    let t = absent-by (is-taken count words 0) (image-at cell sizes 0) (none 0) in
     let b = lt-ltb 0 (64 * count) (omega arith) in
     not-false (is-free words 0) (sym (ap (λ x. x && not (is-free words 0)) b) ∙ t)
 

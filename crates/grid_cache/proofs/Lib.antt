@@ -1,5 +1,5 @@
 mod Bits
 mod Rooms
-mod Laws
+pub mod Laws
 mod Turning
 mod Opening

@@ -9,6 +9,7 @@
 --     fits-in c ws w h     both
 --     grid-cache g         what the grid g means
 --     Chosen g i           the cell i is the free one of highest number on the first page that has one
+--     First-room ws r      r is the first page with a free cell, or none where none has one
 --     toggled ws i         the cell i is taken where it was free, free where it was taken; all others are as they were
 --     In-limits c n        cells of side c and n pages are within the limits
 --     Fresh c n g          g is a new grid of them, every cell free
@@ -20,7 +21,7 @@ use mathlib.Core.Bool.{Bool, true, false, not, cond, _&&_, _||_}
 use mathlib.Core.List.{List, [], _∷_}
 use lib.Dec.{eqb, ltb, leb}
 use lib.Bits.{bitXor}
-use lib.ListN.{getD, set}
+use lib.ListN.{length, getD, set}
 use Rattle.std.specs.declared.option.Option.{Option}
 use Rattle.std.specs.declared.option.Option.the-variants.{None, Some}
 use Rattle.std.specs.declared.result.Result.{Result}
@@ -74,6 +75,10 @@ pub record Chosen (g : Grid) (i : ℕ) : Type 0 where
   pub vacant : is-free (g .free) i ≡ true
   pub none-higher : (j : ℕ) → j / 64 ≡ i / 64 → i < j → is-free (g .free) j ≡ false
   pub none-earlier : (j : ℕ) → j / 64 < i / 64 → is-free (g .free) j ≡ false
+
+abbrev pub First-room : List ℕ → Option ℕ → Type 0
+First-room words None = (k : ℕ) → k < length words → getD words k 0 ≡ 0
+First-room words (Some p) = (p < length words) × (0 < getD words p 0) × ((k : ℕ) → k < p → getD words k 0 ≡ 0)
 
 abbrev pub toggled : List ℕ → ℕ → List ℕ
 toggled words i = set words (i / 64) (bitXor (getD words (i / 64) 0) (2 ^ (i % 64)))

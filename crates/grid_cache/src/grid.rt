@@ -5,6 +5,12 @@ ghost use lib.ListN.{getD};
 ghost use Rattle.grid_cache.specs.Sizes.{no-size};
 use crate::size::Size;
 
+// Cells in a row, and in a column.
+pub(crate) const ROW_CELLS: u32 = 8;
+
+// Cells on a page.
+pub(crate) const PAGE_CELLS: u32 = 64;
+
 #[derive(Drop)]
 pub struct Grid {
     // the side of a cell, in pixels

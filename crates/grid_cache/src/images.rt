@@ -5,6 +5,8 @@ ghost use Rattle.shapes.specs.Answers.{Keeps-refused};
 ghost use Rattle.image_cache.specs.Caches.{Allocated};
 ghost use Rattle.grid_cache.specs.Cells.{grid-cache, Chosen};
 use crate::grid::Grid;
+use crate::grid::PAGE_CELLS;
+use crate::grid::ROW_CELLS;
 use image_cache::cache::ImageCache;
 use image_cache::fault::CacheFault;
 use image_cache::image::Image;
@@ -13,7 +15,7 @@ pub impl ImageCache for Grid as GridCache {
     ghost meaning = { grid-cache };
 
     fn page_width(&self) -> u16 {
-        self.span(8)
+        self.span(ROW_CELLS)
     }
 
     fn page_height(&self) -> u16 {
@@ -50,22 +52,22 @@ pub impl ImageCache for Grid as GridCache {
     }
 
     fn get(&self, id: u32) -> Option<Image> {
-        if !self.taken(id) {
+        if !self.is_taken(id) {
             return None;
         }
         let size = self.sizes[id as usize];
         Some(Image {
             id,
-            page: id / 64,
-            x: self.span(id % 8),
-            y: self.span(id % 64 / 8),
+            page: id / PAGE_CELLS,
+            x: self.span(id % ROW_CELLS),
+            y: self.span(id % PAGE_CELLS / ROW_CELLS),
             w: size.w,
             h: size.h,
         })
     }
 
     fn free(&mut self, id: u32) -> Result<(), CacheFault> {
-        if !self.taken(id) {
+        if !self.is_taken(id) {
             return Err(CacheFault::NotLive);
         }
         self.give_back(id);

@@ -5,6 +5,7 @@ ghost use Rattle.std.specs.Options.{isSome};
 ghost use Rattle.std.specs.Slices.{found};
 ghost use Rattle.grid_cache.specs.Cells.{size-fits, fits-in, is-taken, Chosen};
 use crate::grid::Grid;
+use crate::grid::PAGE_CELLS;
 use crate::words::first_room;
 use crate::words::highest;
 
@@ -27,13 +28,15 @@ impl Grid {
         let Some(page) = first_room(&self.free) else {
             return None;
         };
-        Some(64 * page as u32 + highest(self.free[page]))
+        Some(PAGE_CELLS * page as u32 + highest(self.free[page]))
     }
 
-    pub(crate) fn taken(&self, id: u32) -> bool
+    // Whether an image is in that cell: the cell is on one of the pages, and its bit is not set.
+    pub(crate) fn is_taken(&self, id: u32) -> bool
         ensures { λ r. ⌜ r ≡ is-taken (now (self .entry) .count) (now (self .entry) .free) id ⌝ }
     {
-        id < 64 * self.count && (self.free[(id / 64) as usize] >> (id % 64)) & 1 == 0
+        id < PAGE_CELLS * self.count
+            && (self.free[(id / PAGE_CELLS) as usize] >> (id % PAGE_CELLS)) & 1 == 0
     }
 
     // The pixels that so many cells take up in a row or a column.

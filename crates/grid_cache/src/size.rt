@@ -1,6 +1,6 @@
 // The size of an image, in pixels.
 #[derive(Clone, Copy)]
-pub struct Size {
+pub(crate) struct Size {
     pub w: u16,
     pub h: u16,
 }

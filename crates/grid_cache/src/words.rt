@@ -1,10 +1,9 @@
 // The free cells of a page as the bits of a word.
 ghost use mathlib.Core.Path.{_≡_};
-ghost use Prim.Native.Nat.{ℕ, _^_, _-_, _<_, _≤_};
+ghost use Prim.Native.Nat.{_-_, _^_, _<_};
 ghost use lib.Count.{leadingZeros};
-ghost use lib.ListN.{length, getD};
-ghost use Rattle.std.specs.Options.{Cases as BySome};
-ghost use Rattle.grid_cache.specs.Cells.{toggled, word-of};
+ghost use Rattle.grid_cache.specs.Cells.{toggled, word-of, First-room};
+use crate::grid::PAGE_CELLS;
 
 // All cells are free on a page that is there, and none on one that is not.
 pub(crate) fn new_word(page: u32, count: u32) -> u64
@@ -33,12 +32,12 @@ pub(crate) fn turn(free: &mut [u64; 4], id: u32)
     requires { ⌜ id < 256 ⌝ }
     ensures { λ _. ⌜ now (free .exit) ≡ toggled (now (free .entry)) id ⌝ }
 {
-    free[(id / 64) as usize] ^= bit_of(id % 64);
+    free[(id / PAGE_CELLS) as usize] ^= bit_of(id % PAGE_CELLS);
 }
 
 // The first page with a free cell.
 pub(crate) fn first_room(words: &[u64]) -> Option<usize>
-    ensures { λ r. ⌜ BySome r ((k : ℕ) → k < length (now (words .entry)) → getD (now (words .entry)) k 0 ≡ 0) (λ p. (p < length (now (words .entry))) × (0 < getD (now (words .entry)) p 0) × ((k : ℕ) → k < p → getD (now (words .entry)) k 0 ≡ 0)) ⌝ }
+    ensures { λ r. ⌜ First-room (now (words .entry)) r ⌝ }
 {
     for (page, word) in words.iter().enumerate() {
         if *word != 0 {

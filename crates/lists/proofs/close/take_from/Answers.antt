@@ -1,8 +1,7 @@
 -- The slice closed up, and then cut by one, is the list without that record.
-use mathlib.Core.Path.{_≡_, sym, ap, _∙_}
+use mathlib.Core.Path.{sym}
 use native.Mathlib.Omega.{arith}
 use Rattle.std.specs.Of.Vec.{vec-items}
-use Rattle.lists.specs.Lists.{closed-up}
 use Rattle.std.proofs.shelf.Maps.{nth-read}
 use Rattle.lists.proofs.Closing.{closed-popped}
 use Rattle.lists.proofs.close.take_from.Needs as need
@@ -11,11 +10,9 @@ pub returns : need.returns
 returns g c =
     let v = c .args .records .now in
     let n = v .ok .0 in
-    let h = c .pre in
-    let w : c .close-up .last .records ≡ closed-up (vec-items v) (c .args .at) = c .close-up .ensures ∙ ap (λ xs. closed-up xs (c .args .at)) (c .as-mut-slice .ensures .value) in
     record {
-      value = sym (nth-read (vec-items v) (v .len) (c .args .at) (c .index-record .result .now) n h (c .index-record .ensures));
-      items = c .pop .ensures .places .1 ∙ closed-popped (vec-items v) (c .close-up .last .records) (c .args .at) (v .len) n h w;
+      value = sym (nth-read (vec-items v) (v .len) (c .args .at) (c .index-record .result .now) n (c .pre) (c .index-record .ensures));
+      items = closed-popped (vec-items v) _ (c .close-up .last .records) _ (c .args .at) (v .len) n (c .pre) (c .as-mut-slice .ensures .value) (c .close-up .ensures) (c .pop .ensures .places .1);
       len = omega (arith, c .pop .ensures .len);
       capacity = c .pop .ensures .capacity;
     }

@@ -6,7 +6,7 @@ use lib.ListN.{getD}
 use Rattle.std.proofs.shelf.Tests.{lt-ltb}
 use Rattle.grid_cache.specs.Cells.{is-free}
 use Rattle.grid_cache.proofs.Bits.{clear-test}
-use Rattle.grid_cache.proofs.grid.Grid.taken.Needs as need
+use Rattle.grid_cache.proofs.grid.Grid.is_taken.Needs as need
 
 pub returns-then-id-self : need.returns-then-id-self
 returns-then-id-self c =

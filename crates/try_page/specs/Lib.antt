@@ -1,0 +1,4 @@
+pub mod Reading
+pub mod Verdicts
+pub mod Once
+pub mod Tally

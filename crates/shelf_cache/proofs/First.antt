@@ -33,7 +33,14 @@ pub first-is : (p : ℕ → Bool) (n : ℕ) (r : Option ℕ) → FirstBelow p n 
 first-is p n None f = first-none p n f
 first-is p n (Some i) f = first-some p n i (f .0) (f .1) (f .2)
 
+-- this one passes, and none before
+pub first-here : (p : ℕ → Bool) (n i : ℕ) (b : Bool) → i < n → ((k : ℕ) → k < i → p k ≡ false) → b ≡ p i → b ≡ true → FirstBelow p n (Some i)
+first-here p n i b l h e t = (l, sym e ∙ t, h)
+
 -- one number more
+pub none-more : (p : ℕ → Bool) (n : ℕ) (b : Bool) → ((k : ℕ) → k < n → p k ≡ false) → b ≡ p n → b ≡ false → (k : ℕ) → k < n + 1 → p k ≡ false
+none-more p n b h e f k l = ⊎-elim (λ m. h k m) (λ m. let q : k ≡ n = omega arith in ap p q ∙ (sym e ∙ f)) (cases-lt k n)
+
 first-step : (p : ℕ → Bool) (n : ℕ) (o : Option ℕ) (b : Bool) → p n ≡ b → FirstBelow p n o → FirstBelow p (suc n) (or-else o (cond b (Some n) None))
 first-step p n (Some i) b e f = (omega (arith, f .0), f .1, f .2)
 first-step p n None true e f = (omega arith, e, f)

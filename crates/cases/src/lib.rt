@@ -1,4 +1,6 @@
 // The worked cases of keys, transforms, metrics, lists and cells: as one statement on the definitions, and run by the code.
+#![tactic(auto)]
+
 ghost use Rattle.std.specs.Prelude.{◌≡◌, true, Some, Ok};
 ghost use Rattle.shapes.specs.Answers.{refused_with};
 ghost use Rattle.raster.specs.Faults.{raster_number};

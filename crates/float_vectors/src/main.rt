@@ -1,4 +1,6 @@
 // Reads test vectors, one a line, puts each to the libraries, and writes a line for each line read.
+#![tactic(auto)]
+
 mod answers;
 mod reading;
 mod replies;

@@ -1,4 +1,6 @@
 // The atlas: which glyphs have a picture on a page, and what waits to be put there or cleared away.
+#![tactic(auto)]
+
 mod ageing;
 pub mod atlas;
 pub mod clearing;

@@ -1,4 +1,6 @@
 // The key of a glyph: what has to agree for two glyphs to share one picture.
+#![tactic(auto)]
+
 pub mod bucket;
 pub mod fault;
 pub mod key;

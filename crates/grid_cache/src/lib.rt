@@ -1,4 +1,6 @@
 // An image cache of square cells of one size, eight by eight to a page.
+#![tactic(auto)]
+
 mod changes;
 pub mod grid;
 pub mod images;

@@ -1,4 +1,6 @@
 // The commands that wait for each page, and whoever takes them.
+#![tactic(auto)]
+
 pub mod recorder;
 pub mod recording;
 pub mod target;

@@ -4,7 +4,7 @@
 --     bounds_of o      the outline's box with each number multiplied by its scale, rounded once
 use Rattle.std.specs.Prelude.{ℕ, Bool, cond, ◌&&◌, ◌||◌, ℤ, pos, negsuc, ◌+ℤ◌, ◌-ℤ◌, neg_ℤ, Ok, Err, Result, int_le, nat_lt, unsigned_abs}
 use Rattle.shapes.specs.declared.Rect.{Rect}
-use Rattle.shapes.specs.Numbers.{unitsOf, floorOf, ceilOf, finite_rect, times}
+use Rattle.shapes.specs.Numbers.{units_of, floor_of, ceil_of, finite_rect, times}
 use Rattle.raster.specs.declared.glyph.RasterMetrics.{RasterMetrics}
 use Rattle.raster.specs.declared.fault.RasterFault.{RasterFault}
 use Rattle.raster.specs.declared.fault.RasterFault.TheVariants.{Metrics}
@@ -39,11 +39,11 @@ from_edges left right top bottom =
 
 -- the box is not inverted
 abbrev pub in_order : Rect → Bool
-in_order b = int_le (unitsOf b.x0) (unitsOf b.x1) && int_le (unitsOf b.y0) (unitsOf b.y1)
+in_order b = int_le (units_of b.x0) (units_of b.x1) && int_le (units_of b.y0) (units_of b.y1)
 
 -- the edges of a picture: outward to whole pixels, y turned downward
 abbrev pub from_ordered : Rect → Result RasterMetrics RasterFault
-from_ordered b = from_edges (floorOf (unitsOf b.x0)) (ceilOf (unitsOf b.x1) +ℤ pos 1) (floorOf (neg_ℤ (unitsOf b.y1))) (ceilOf (neg_ℤ (unitsOf b.y0)))
+from_ordered b = from_edges (floor_of (units_of b.x0)) (ceil_of (units_of b.x1) +ℤ pos 1) (floor_of (neg_ℤ (units_of b.y1))) (ceil_of (neg_ℤ (units_of b.y0)))
 
 -- a product that overflows to an infinity is refused as well: no width or height in range comes of it
 abbrev pub from_box : Rect → Result RasterMetrics RasterFault

@@ -1,4 +1,5 @@
 // What sinks, screens and page targets do at their limits: run, and proved to be safe.
+#![tactic(auto)]
 
 #[cfg(test)]
 mod lists;

@@ -1,4 +1,6 @@
 // The plain values that everything above carries: transforms, boxes, paths, pixmaps, colours.
+#![tactic(auto)]
+
 ghost use Rattle.std.specs.Prelude.{◌≡◌};
 ghost use Rattle.shapes.specs.Numbers.{finite_affine, finite_rect, finite_path, finite_color, color_of};
 

@@ -1,4 +1,6 @@
 // An image cache of shelves: an image goes to the first shelf that takes it, else to a new one on the first page with room.
+#![tactic(auto)]
+
 mod changes;
 pub mod images;
 pub mod opens;

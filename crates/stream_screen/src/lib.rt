@@ -1,4 +1,6 @@
 // A screen that writes its calls as bytes into a lent buffer.
+#![tactic(auto)]
+
 pub mod makes;
 mod numbers;
 mod records;

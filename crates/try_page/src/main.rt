@@ -1,4 +1,6 @@
 // Reads a page file and says for each letter what the glyph atlas will make of it.
+#![tactic(auto)]
+
 mod choice;
 mod draft;
 mod failure;

@@ -9,5 +9,5 @@ use Rattle.glyph_key.proofs.bucket.nearest_quarter.Goals as goal
 
 pub returns : goal.returns
 returns c =
-    let e : c.saturating-f32-to-u8.result ≡ near_by_ieee c.args.frac = c.saturating-f32-to-u8.ensures ∙ ap (to_unsigned 8) c.in-quarters.ensures in
+    let e : c.saturating_f32_to_u8.result ≡ near_by_ieee c.args.frac = c.saturating_f32_to_u8.ensures ∙ ap (to_unsigned 8) c.in_quarters.ensures in
     record { steps = e; value = e ∙ near_is c.args.frac (passes _ (search rules)); nearest = within_an_eighth; rounding = to_nearest }

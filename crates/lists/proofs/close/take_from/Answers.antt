@@ -10,7 +10,7 @@ returns g c =
     let n = v.ok.0 in
     record {
       value = sym (slice_get_read (vec_items v) v.len c.args.at c.index-record.result.now n c.requires c.index-record.ensures);
-      items = closed_popped (vec_items v) _ c.close-up.new.records _ c.args.at v.len n c.requires c.as-mut-slice.ensures.value c.close-up.ensures c.pop.ensures.rest;
+      items = closed_popped (vec_items v) _ c.close_up.new.records _ c.args.at v.len n c.requires c.as_mut_slice.ensures.value c.close_up.ensures c.pop.ensures.rest;
       len = omega (arith, c.pop.ensures.len);
       capacity = c.pop.ensures.capacity;
     }

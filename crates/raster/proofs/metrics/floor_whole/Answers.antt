@@ -6,4 +6,4 @@ use Rattle.floats.proofs.Floors.{floor_units}
 use Rattle.raster.proofs.metrics.floor_whole.Goals as goal
 
 pub returns : goal.returns
-returns c = omega (arith, ints) ∙ c.saturating-f64-to-i32.ensures ∙ ap (to_signed 31) c.floor.ensures ∙ floor_units c.args.x (passes _ (search rules)) c.requires
+returns c = omega (arith, ints) ∙ c.saturating_f64_to_i32.ensures ∙ ap (to_signed 31) c.floor.ensures ∙ floor_units c.args.x (passes _ (search rules)) c.requires

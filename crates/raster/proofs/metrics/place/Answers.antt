@@ -39,17 +39,17 @@ returns-in-err-top c =
 pub returns : goal.returns
 returns c =
     let a = c.args in
-    let w : to_z w64 (of_z w64 c.width-between.result) ≡ (a.right +ℤ pos 1) -ℤ a.left = search rules in
-    let h : to_z w64 (of_z w64 c.height-between.result) ≡ a.bottom -ℤ a.top = search rules in
+    let w : to_z w64 (of_z w64 c.width_between.result) ≡ (a.right +ℤ pos 1) -ℤ a.left = search rules in
+    let h : to_z w64 (of_z w64 c.height_between.result) ≡ a.bottom -ℤ a.top = search rules in
     let l : to_z w32 (of_z w32 a.left) ≡ a.left = search rules in
     let t : to_z w32 (of_z w32 a.top) ≡ a.top = search rules in
-    let x : to_z w16 (of_z w16 c.in-ok-left.left) ≡ c.in-ok-left.left = search rules in
+    let x : to_z w16 (of_z w16 c.in_ok-left.left) ≡ c.in_ok-left.left = search rules in
     let y : to_z w16 (of_z w16 c.in-ok-top.top) ≡ c.in-ok-top.top = search rules in
     (λ i. joined (Ok c.in-ok-width.width) (Ok c.in-ok-height.height) (Ok (x i)) (Ok (y i)))
     ∙ (λ i.
     joined
     ((c.in-ok-width.ensures ∙ ap extent_of w) i)
     ((c.in-ok-height.ensures ∙ ap extent_of h) i)
-    ((c.in-ok-left.ensures ∙ ap bearing_of l) i)
+    ((c.in_ok-left.ensures ∙ ap bearing_of l) i)
     ((c.in-ok-top.ensures ∙ ap bearing_of t) i))
     ∙ by_parts a.left (a.right +ℤ pos 1) a.top a.bottom

@@ -16,6 +16,6 @@ pub returns : goal.returns
 returns c =
     let t = c.args.t in
     let p = linear t c.requires in
-    let b = c.is-straight.ensures ∙ straight_is t.b (passes _ (search rules)) p.b_is in
-    let d = c.is-straight-2.ensures ∙ straight_is t.c (passes _ (search rules)) p.c_is in
-    λ i. b i && d i && c.is-sign-positive.ensures i && c.is-sign-positive-2.ensures i
+    let b = c.is_straight.ensures ∙ straight_is t.b (passes _ (search rules)) p.b_is in
+    let d = c.is_straight-2.ensures ∙ straight_is t.c (passes _ (search rules)) p.c_is in
+    λ i. b i && d i && c.is_sign_positive.ensures i && c.is-sign-positive-2.ensures i

@@ -15,7 +15,7 @@ is_ok m = Ok m
 pub returns : goal.returns
 unfolding of_bits neg mul float_is_finite size
 returns c =
-    let letter = c.is-metrics.ensures (c.calculate-raster-metrics-letter.ensures.answer ∙ ap metrics_of c.outline.ensures ∙ ap is_ok (sym c.metrics.ensures)) in
-    let widest = c.is-metrics-2.ensures (c.calculate-raster-metrics-widest.ensures.answer ∙ ap metrics_of c.outline-2.ensures ∙ ap is_ok (sym c.metrics-2.ensures)) in
-    let wider = c.is-refused.ensures (ap (refused_with raster_number) (c.calculate-raster-metrics-wider.ensures.answer ∙ ap metrics_of c.outline-3.ensures)) in
+    let letter = c.is_metrics.ensures (c.calculate_raster_metrics-letter.ensures.answer ∙ ap metrics_of c.outline.ensures ∙ ap is_ok (sym c.metrics.ensures)) in
+    let widest = c.is_metrics-2.ensures (c.calculate_raster_metrics-widest.ensures.answer ∙ ap metrics_of c.outline-2.ensures ∙ ap is_ok (sym c.metrics-2.ensures)) in
+    let wider = c.is_refused.ensures (ap (refused_with raster_number) (c.calculate_raster_metrics-wider.ensures.answer ∙ ap metrics_of c.outline-3.ensures)) in
     record { cases = (refl, refl, refl, refl, refl, refl); run = λ i. letter i && widest i && wider i }

@@ -11,5 +11,5 @@ pub returns : goal.returns
 unfolding of_bits neg float_is_finite is_sign_negative
 returns c = record {
   cases = (refl, refl, refl, refl, refl, refl, refl);
-  run = c.supports-atlas-caching.ensures ∙ ap (λ (g : Glyph). supported g (skewed (fin false 1 (negsuc 11)))) c.outline.ensures;
+  run = c.supports_atlas_caching.ensures ∙ ap (λ (g : Glyph). supported g (skewed (fin false 1 (negsuc 11)))) c.outline.ensures;
 }

@@ -7,8 +7,8 @@ use Rattle.atlas_pages.proofs.Changing.{changed-more, all_changed}
 use Rattle.atlas_pages.proofs.Adding.{still_roomy}
 use Rattle.atlas_pages.proofs.sets.add_to.Goals as goal
 
-pub add-if-requires : goal.add-if-requires
-add-if-requires c =
+pub add_if-requires : goal.add_if-requires
+add_if-requires c =
     let n : length c.loop-recorder.recorders ≡ 4 = search rules in
     let h : c.loop-recorder.recorder-index < length c.loop-recorder.recorders = omega arith in
     still_roomy (add_commands c.args.page c.args.commands) c.args.recorders.now _ _ _ h c.loop-recorder.invariant c.requires.1
@@ -18,8 +18,8 @@ loop-recorder-preserved c =
     let n : length c.loop-recorder.recorders ≡ 4 = search rules in
     let h : c.loop-recorder.recorder-index < length c.loop-recorder.recorders = omega arith in
     let f = add_commands c.args.page c.args.commands in
-    changed-more f c.args.recorders.now _ _ c.recorder-item.result c.add-if.new.recorder h c.loop-recorder.invariant c.recorder-item.is
-    (c.add-if.ensures ∙ ap (λ (r : AtlasCommandRecorder). f (page_of r)) (sym c.recorder-item.is))
+    changed-more f c.args.recorders.now _ _ c.recorder-item.result c.add_if.new.recorder h c.loop-recorder.invariant c.recorder-item.is
+    (c.add_if.ensures ∙ ap (λ (r : AtlasCommandRecorder). f (page_of r)) (sym c.recorder-item.is))
 
 pub returns : goal.returns
 returns c =

@@ -6,8 +6,8 @@ use Rattle.atlas_pages.specs.AllPages.{crowded}
 use Rattle.atlas_pages.proofs.Searching.{passing-here, passing-later, passing-none}
 use Rattle.atlas_pages.proofs.sets.one_crowded.Goals as goal
 
-pub returns-then-free-places-lt3 : goal.returns-then-free-places-lt3
-returns-then-free-places-lt3 c =
+pub returns-then-free_places-lt3 : goal.returns-then-free_places-lt3
+returns-then-free_places-lt3 c =
     let e : crowded (page_of c.recorder-item.result) ≡ true = search rules in
     sym (ap not (c.loop-recorder.invariant ∙ ap none (passing-here crowded c.args.recorders.now _ c.recorder-item.result c.loop-recorder-test.true c.recorder-item.is e)))
 

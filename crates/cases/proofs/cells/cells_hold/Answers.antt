@@ -3,8 +3,8 @@ use Rattle.std.proofs.Common.{refl}
 use Rattle.cases.proofs.First.{it_fits, placed}
 use Rattle.cases.proofs.cells.cells_hold.Goals as goal
 
-pub returns-in-default-allocate : goal.returns-in-default-allocate
-returns-in-default-allocate c = absurd (it_fits c.in-Ok.grid c.allocate.new.self c.in-default-allocate.field-0 c.in-Ok.ensures.1 c.in-default-allocate.ensures.allocates)
+pub returns-in_default-allocate : goal.returns-in_default-allocate
+returns-in_default-allocate c = absurd (it_fits c.in-Ok.grid c.allocate.new.self c.in_default-allocate.field-0 c.in-Ok.ensures.1 c.in_default-allocate.ensures.allocates)
 
 pub returns-in-Some : goal.returns-in-Some
 returns-in-Some c =
@@ -13,5 +13,5 @@ returns-in-Some c =
     record {
       lists = (refl, refl, refl, refl, refl, refl);
       cells = (refl, refl, refl, refl, refl, refl, refl, refl, refl, refl, refl, refl, refl, refl);
-      run = c.is-at.ensures p.0 p.1 p.2;
+      run = c.is_at.ensures p.0 p.1 p.2;
     }

@@ -4,4 +4,4 @@ use Rattle.drawing.proofs.show.send_glyph.Goals as goal
 
 pub returns : goal.returns
 returns g c =
-    plain_shown _ _ _ _ (enclosed _ c.in-Ok.ensures.saves (stepped _ _ _ c.send-plain.ensures) c.in-Ok-restore-state.ensures.restores)
+    plain_shown _ _ _ _ (enclosed _ c.in-Ok.ensures.saves (stepped _ _ _ c.send_plain.ensures) c.in-Ok-restore_state.ensures.restores)

@@ -7,7 +7,7 @@ use Rattle.glyph_atlas.specs.declared.entry.GlyphCacheEntry.{GlyphCacheEntry}
 use Rattle.glyph_atlas.specs.Places.{aged}
 use Rattle.glyph_atlas.proofs.Sweeping.{zeros, gone-more, gone-stays, gone_all, still_there, sized_at}
 use Rattle.glyph_atlas.proofs.ageing.sweep.Goals as goal
-use Rattle.glyph_atlas.proofs.ageing.sweep.Goals.{then-is-old, else-is-old}
+use Rattle.glyph_atlas.proofs.ageing.sweep.Goals.{then-is_old, else-is_old}
 
 pub pad-requires : goal.pad-requires
 pad-requires g c =
@@ -36,15 +36,15 @@ loop-i-preserved g c =
     let c₀ = g.C.ImageCache.meaning c.args.cache.now in
     let k = held c.loop-i.clears in
     let d = g.C.ImageCache.meaning c.loop-i.cache in
-    elim c.if-is-old.branch [
-      | then-is-old w ↦
-          let o : aged t a e ≡ true = sym c.is_old.ensures ∙ w.if-is-old.true in (
+    elim c.if-is_old.branch [
+      | then-is_old w ↦
+          let o : aged t a e ≡ true = sym c.is_old.ensures ∙ w.if-is_old.true in (
             rw (w.entries-is, w.to-is) (FiltersInPlace-more_no keeps l (ap not o) at),
             rw (w.clears-is, w.cache-is) (gone-more t a xs k₀ c₀ i k d gone e c.loop-i-test.true was o c.requires.room
                 w.free.result (g.C.ImageCache.meaning w.free.new.self) w.free.ensures.frees (held w.push.new.self) (w.push.ensures.items ∙ ap (λ y. appended 256 k y) w.pad.ensures)),
           )
-      | else-is-old w ↦
-          let o : aged t a e ≡ false = sym c.is_old.ensures ∙ w.if-is-old.false in (
+      | else-is_old w ↦
+          let o : aged t a e ≡ false = sym c.is_old.ensures ∙ w.if-is_old.false in (
             rw (w.entries-is, w.to-is) (FiltersInPlace-more_set keeps l (ap not o) at),
             rw (w.clears-is, w.cache-is) (gone-stays t a xs k₀ c₀ i k d gone e c.loop-i-test.true was o),
           )

@@ -19,7 +19,7 @@ loop-extent-preserved g c =
     let step = one_more before (take i es) (vec_items c.loop-extent.answers) (g.C.ImageCache.meaning c.loop-extent.cache) _ c.place.result after c.loop-extent.invariant.0 c.place.ensures.places in
     let P : List Extent → List (Result Image CacheFault) → Type 0 = λ xs rs. PlacedAll before xs rs after in
     let longer = subst (λ (xs : List Extent). P xs (vec_items c.loop-extent.answers ++ c.place.result ∷ [])) (sym (take_more es i none here)) step in
-    let kept = subst (λ (rs : List (Result Image CacheFault)). P (take (i + 1) es) rs) (sym c.push-reserved.ensures.items) longer in
+    let kept = subst (λ (rs : List (Result Image CacheFault)). P (take (i + 1) es) rs) (sym c.push_reserved.ensures.items) longer in
     (kept, search rules, search rules)
 
 pub returns : goal.returns

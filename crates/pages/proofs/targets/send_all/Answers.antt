@@ -8,7 +8,7 @@ loop-command-init g c = none_yet _
 
 pub unreachable-requires : goal.unreachable-requires
 unreachable-requires g c u =
-    some_place _ _ _ _ c.loop-command-test.true c.requires c.loop-command.invariant c.in-default.ensures.sends.0
+    some_place _ _ _ _ c.loop-command-test.true c.requires c.loop-command.invariant c.in_default.ensures.sends.0
 
 pub loop-command-preserved : goal.loop-command-preserved
 loop-command-preserved g c =

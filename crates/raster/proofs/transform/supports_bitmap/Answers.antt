@@ -6,11 +6,11 @@ use Rattle.raster.proofs.Finite.{linear}
 use Rattle.raster.proofs.Tests.{straight_is}
 use Rattle.raster.proofs.transform.supports_bitmap.Goals as goal
 
-pub is-sign-positive-requires : goal.is-sign-positive-requires
-is-sign-positive-requires c = number _ (linear c.args.t c.requires).a_is
+pub is_sign_positive-requires : goal.is_sign_positive-requires
+is_sign_positive-requires c = number _ (linear c.args.t c.requires).a_is
 
-pub is-sign-positive-requires-2 : goal.is-sign-positive-requires-2
-is-sign-positive-requires-2 c = number _ (linear c.args.t c.requires).d_is
+pub is_sign_positive-requires-2 : goal.is_sign_positive-requires-2
+is_sign_positive-requires-2 c = number _ (linear c.args.t c.requires).d_is
 
 pub returns : goal.returns
 returns c =
@@ -18,4 +18,4 @@ returns c =
     let p = linear t c.requires in
     let b = c.is_straight.ensures ∙ straight_is t.b (passes _ (search rules)) p.b_is in
     let d = c.is_straight-2.ensures ∙ straight_is t.c (passes _ (search rules)) p.c_is in
-    λ i. b i && d i && c.is_sign_positive.ensures i && c.is-sign-positive-2.ensures i
+    λ i. b i && d i && c.is_sign_positive.ensures i && c.is_sign_positive-2.ensures i

@@ -5,9 +5,9 @@ use Rattle.atlas_pages.proofs.Changing.{four, still-numbered}
 use Rattle.atlas_pages.proofs.Adding.{same_number}
 use Rattle.atlas_pages.proofs.set.AtlasPages.record.Goals as goal
 
-pub add-to-requires : goal.add-to-requires
-add-to-requires c = (four _ c.args.self.now.numbered, sym c.if-is-crowded.ensures)
+pub add_to-requires : goal.add_to-requires
+add_to-requires c = (four _ c.args.self.now.numbered, sym c.if-is_crowded.ensures)
 
-pub invariant-of-self : goal.invariant-of-self
-invariant-of-self c =
-    (still-numbered (add_commands c.args.page c.args.commands) (same_number c.args.page c.args.commands) _ _ c.args.self.now.numbered c.add-to.ensures, tt)
+pub invariant_of-self : goal.invariant_of-self
+invariant_of-self c =
+    (still-numbered (add_commands c.args.page c.args.commands) (same_number c.args.page c.args.commands) _ _ c.args.self.now.numbered c.add_to.ensures, tt)

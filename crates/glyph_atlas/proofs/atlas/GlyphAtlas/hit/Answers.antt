@@ -6,8 +6,8 @@ use Rattle.glyph_atlas.proofs.Lookups.{reads}
 use Rattle.glyph_atlas.proofs.Invariants.{once_kept, sized_kept}
 use Rattle.glyph_atlas.proofs.atlas.GlyphAtlas.hit.Goals as goal
 
-pub invariant-of-self : goal.invariant-of-self
-invariant-of-self c =
+pub invariant_of-self : goal.invariant_of-self
+invariant_of-self c =
     let a = c.args.self.now in
     let t = a.table in
     let n = t.entries.ok.0 in
@@ -36,7 +36,7 @@ returns c = λ k h.
       found = h.found;
       its_slot = ap (λ (x : GlyphCacheEntry). x.slot) (reads k es i h c.index.result.now c.index.ensures);
       entries = ap (λ (x : GlyphCacheEntry). set es i (new_entry x.key x.slot a.tick)) (reads k es i h c.index-mut.result.now c.index-mut.ensures.value) ∙ h.renewing a.tick;
-      hits = c.one-more-self.ensures;
+      hits = c.one_more-self.ensures;
       misses = refl;
       settings = record { age = refl; frequency = refl };
       clock = record { tick = refl; last_due = refl };

@@ -13,8 +13,8 @@ returns-then-len-gt0 g c = record { replays = (refused ClearWaits, ((omega arith
 pub returns : goal.returns
 returns g c =
     let a = c.args.self.now in
-    let o = c.offer-all-answer.ensures in
-    let q = c.offer-all-answer.result in
+    let o = c.offer_all-answer.ensures in
+    let q = c.offer_all-answer.result in
     record {
       replays = (
         accepted o.0 (has_failed q),

@@ -14,5 +14,5 @@ returns-then-len-eq0 c =
 pub returns : goal.returns
 returns c =
     let a = c.args.self.now in
-    let h = head_out (held a.uploads) c.take-first.result (held c.take-first.new.self) (omega arith) c.take-first.ensures.value c.take-first.ensures.items in
-    record { takes = upload_out (model a) (held c.take-first.new.self) c.take-first.result (nil_from_length (held a.clears) (omega arith)) h; keeps = tt }
+    let h = head_out (held a.uploads) c.take_first.result (held c.take_first.new.self) (omega arith) c.take_first.ensures.value c.take_first.ensures.items in
+    record { takes = upload_out (model a) (held c.take_first.new.self) c.take_first.result (nil_from_length (held a.clears) (omega arith)) h; keeps = tt }

@@ -5,8 +5,8 @@ use Rattle.glyph_atlas.specs.Shape.{keys_of, oversized}
 use Rattle.glyph_atlas.proofs.Invariants.{once_more, sized_more}
 use Rattle.glyph_atlas.proofs.table.EntryTable.add.Goals as goal
 
-pub invariant-of-self : goal.invariant-of-self
-invariant-of-self c =
+pub invariant_of-self : goal.invariant_of-self
+invariant_of-self c =
     let t = c.args.self.now in
     let es = vec_items t.entries in
     let n = t.entries.ok.0 in (
@@ -14,9 +14,9 @@ invariant-of-self c =
       (
         omega arith,
         (
-          ap (λ xs. repeats (keys_of xs)) c.put-last.ensures.items ∙ once_more es c.args.entry t.once c.requires.new,
+          ap (λ xs. repeats (keys_of xs)) c.put_last.ensures.items ∙ once_more es c.args.entry t.once c.requires.new,
           (
-            ap (filter oversized) c.put-last.ensures.items ∙ sized_more es c.args.entry t.sized c.requires.narrow c.requires.low,
+            ap (filter oversized) c.put_last.ensures.items ∙ sized_more es c.args.entry t.sized c.requires.narrow c.requires.low,
             tt,
           ),
         ),

@@ -11,16 +11,16 @@ use Rattle.glyph_atlas.proofs.table.EntryTable.evict.Goals as goal
 
 pub sweep-staying-requires : goal.sweep-staying-requires
 sweep-staying-requires g c =
-    let e = c.as-mut-slice.ensures.value in
+    let e = c.as_mut_slice.ensures.value in
     record { room = omega (arith, ap length e); sized = ap (filter oversized) e ∙ c.args.self.now.sized }
 
-pub invariant-of-self : goal.invariant-of-self
-invariant-of-self g c =
+pub invariant_of-self : goal.invariant_of-self
+invariant_of-self g c =
     let t = c.args.self.now in
     let p = unaged c.args.tick c.args.age in
     let ws = c.sweep-staying.new.entries in
     let l : length ws ≡ t.entries.len = search rules in
-    let k = left_over t.entries p ws c.sweep-staying.result l c.as-mut-slice.ensures.value c.sweep-staying.ensures.stay c.truncate.ensures.items in (
+    let k = left_over t.entries p ws c.sweep-staying.result l c.as_mut_slice.ensures.value c.sweep-staying.ensures.stay c.truncate.ensures.items in (
       omega arith,
       (
         omega arith,
@@ -40,7 +40,7 @@ returns g c =
     let old = aged c.args.tick c.args.age in
     let ws = c.sweep-staying.new.entries in
     let l : length ws ≡ t.entries.len = search rules in
-    let e = c.as-mut-slice.ensures.value in
+    let e = c.as_mut_slice.ensures.value in
     let P : List GlyphCacheEntry → Type 0 = λ es. FreedAll (g.C.ImageCache.meaning c.args.cache.now) (ids_of (filter old es)) (g.C.ImageCache.meaning c.sweep-staying.new.cache) in
     record {
       stay = left_over t.entries (unaged c.args.tick c.args.age) ws c.sweep-staying.result l e c.sweep-staying.ensures.stay c.truncate.ensures.items;

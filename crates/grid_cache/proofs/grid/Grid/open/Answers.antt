@@ -7,9 +7,9 @@ use Rattle.grid_cache.specs.Cells.{is_free, cache_of}
 use Rattle.grid_cache.proofs.Opening.{words_of, new_idle, new_free, new_none, no_sizes}
 use Rattle.grid_cache.proofs.grid.Grid.open.Goals as goal
 
-pub invariant-of-result : goal.invariant-of-result
-invariant-of-result c =
-    let e : ◌≡◌ {A = List ℕ} (c.new-word.result ∷ c.new-word-2.result ∷ c.new-word-3.result ∷ c.new-word-4.result ∷ []) (words_of c.args.count) = cc in
+pub invariant_of-result : goal.invariant_of-result
+invariant_of-result c =
+    let e : ◌≡◌ {A = List ℕ} (c.new_word.result ∷ c.new_word-2.result ∷ c.new_word-3.result ∷ c.new_word-4.result ∷ []) (words_of c.args.count) = cc in
     let P : List ℕ → Type 0 = λ ws. (p : ℕ) → c.args.count ≤ p → get_or ws p 0 ≡ 0 in
     let W : Size → Type 0 = λ z. z.w ≤ c.args.cell in
     let H : Size → Type 0 = λ z. z.h ≤ c.args.cell in (
@@ -38,7 +38,7 @@ invariant-of-result c =
 pub returns : goal.returns
 returns c =
     let n = c.args.count in
-    let e : ◌≡◌ {A = List ℕ} (c.new-word.result ∷ c.new-word-2.result ∷ c.new-word-3.result ∷ c.new-word-4.result ∷ []) (words_of n) = cc in
+    let e : ◌≡◌ {A = List ℕ} (c.new_word.result ∷ c.new_word-2.result ∷ c.new_word-3.result ∷ c.new_word-4.result ∷ []) (words_of n) = cc in
     let F : List ℕ → Type 0 = λ ws. (i : ℕ) → i < 64 * n → is_free ws i ≡ true in
     let N : List ℕ → Type 0 = λ ws. Empty (cache_of c.args.cell n ws (replicate 256 no_size)) in
     record {

@@ -5,11 +5,11 @@ use Rattle.grid_cache.specs.Cells.{size_fits, any_free, Chosen}
 use Rattle.grid_cache.specs.Rooms.{none_free, some_free, chosen_is}
 use Rattle.grid_cache.proofs.grid.Grid.place.Goals as goal
 
-pub returns-in-default : goal.returns-in-default
-returns-in-default c =
+pub returns-in_default : goal.returns-in_default
+returns-in_default c =
     let g = c.args.self.now in
     record {
-      fits = sym (and_right (size_fits g.cell c.args.w c.args.h) (any_free g.free) (none_free g.free c.in-default.ensures));
+      fits = sym (and_right (size_fits g.cell c.args.w c.args.h) (any_free g.free) (none_free g.free c.in_default.ensures));
       chosen = tt;
     }
 

@@ -7,8 +7,8 @@ use Rattle.grid_cache.specs.Rooms.{fits_wide, fits_high}
 use Rattle.grid_cache.proofs.Turning.{added_is, still_within, still_idle}
 use Rattle.grid_cache.proofs.grid.Grid.take.Goals as goal
 
-pub invariant-of-self : goal.invariant-of-self
-invariant-of-self c =
+pub invariant_of-self : goal.invariant_of-self
+invariant_of-self c =
     let g = c.args.self.now in
     let i = c.args.id in
     let s : Size = record { w = c.args.w; h = c.args.h } in

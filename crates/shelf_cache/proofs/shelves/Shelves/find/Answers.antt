@@ -13,4 +13,4 @@ finds g i None f = ap (option_map (λ j. image_of (spot_at g.spots j))) (first_i
 finds g i (Some k) f = (f.0, eqb-true _ _ f.1, ap (option_map (λ j. image_of (spot_at g.spots j))) (first_is (has_at g.spots i) g.live (Some k) f))
 
 pub returns : goal.returns
-returns c = finds c.args.self.now c.args.id c.first-with.result c.first-with.ensures
+returns c = finds c.args.self.now c.args.id c.first_with.result c.first_with.ensures

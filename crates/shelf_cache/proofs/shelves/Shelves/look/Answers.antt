@@ -10,16 +10,16 @@ pub loop-at-preserved : goal.loop-at-preserved
 loop-at-preserved c =
     let g = c.args.self.now in
     let i = c.loop-at.at in (
-      none_more (takes_at g.width c.args.w c.args.h g.shelves g.standing) i c.takes-image.result c.loop-at.invariant.0 c.takes-image.ensures c.if-takes-image.false,
-      first_more (opens_at g.count g.height c.args.h g.shelves g.standing) i c.loop-at.opening c.or-here-opening.result c.is-open-opens.result c.is-open-opens.ensures c.or-here-opening.ensures c.loop-at.invariant.1,
+      none_more (takes_at g.width c.args.w c.args.h g.shelves g.standing) i c.takes_image.result c.loop-at.invariant.0 c.takes_image.ensures c.if-takes_image.false,
+      first_more (opens_at g.count g.height c.args.h g.shelves g.standing) i c.loop-at.opening c.or_here-opening.result c.is_open-opens.result c.is_open-opens.ensures c.or_here-opening.ensures c.loop-at.invariant.1,
     )
 
-pub returns-then-takes-image : goal.returns-then-takes-image
-returns-then-takes-image c =
+pub returns-then-takes_image : goal.returns-then-takes_image
+returns-then-takes_image c =
     let g = c.args.self.now in
     let taking = takes_at g.width c.args.w c.args.h g.shelves g.standing in
     let P : Choice → Type 0 = Chosen taking (opens_at g.count g.height c.args.h g.shelves g.standing) 64 in
-    subst P (sym c.choose.ensures) (first_here taking 64 c.loop-at.at c.takes-image.result (omega arith) c.loop-at.invariant.0 c.takes-image.ensures c.if-takes-image.true)
+    subst P (sym c.choose.ensures) (first_here taking 64 c.loop-at.at c.takes_image.result (omega arith) c.loop-at.invariant.0 c.takes_image.ensures c.if-takes_image.true)
 
 chosen_new : (taking opening : ℕ → Bool) (n : ℕ) (o : Option ℕ) → FirstBelow taking n None → FirstBelow opening n o → Chosen taking opening n (choice_of None o)
 chosen_new taking opening n None f g = (f, g)

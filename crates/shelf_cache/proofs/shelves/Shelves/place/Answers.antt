@@ -11,7 +11,7 @@ pub overflow-cast-top : goal.overflow-cast-top
 overflow-cast-top c =
     let g = c.args.self.now in
     let o = opens-is g.count g.height c.args.h g.shelves g.standing c.in-New.at c.in-New.ensures.1.1 in
-    Fits-below {n = 65535} tt (omega (arith, o.left, c.end-of-top.ensures, g.high))
+    Fits-below {n = 65535} tt (omega (arith, o.left, c.end_of-top.ensures, g.high))
 
 pub returns-in-Old : goal.returns-in-Old
 returns-in-Old c =
@@ -34,8 +34,8 @@ returns-in-New c =
     let placed : ℕ → Place = λ top. record { at = s; shelf = record { top = top; height = h; used = 0; images = 0 } } in
     let F : ℕ → Type 0 = λ top. Fit g.width g.height g.count g.shelves g.standing g.live w h (placed top) in
     record {
-      value = ap (λ top. Some (placed top)) c.end-of-top.ensures ∙ sym (place-both g.width g.height g.count g.shelves g.standing g.live w h None (Some s) z f.0 f.1);
-      fit = subst F (sym c.end-of-top.ensures) (fit-new g.width g.height g.count g.shelves g.standing g.live w h s z f.0 f.1);
+      value = ap (λ top. Some (placed top)) c.end_of-top.ensures ∙ sym (place-both g.width g.height g.count g.shelves g.standing g.live w h None (Some s) z f.0 f.1);
+      fit = subst F (sym c.end_of-top.ensures) (fit-new g.width g.height g.count g.shelves g.standing g.live w h s z f.0 f.1);
     }
 
 pub returns-in-Nowhere : goal.returns-in-Nowhere

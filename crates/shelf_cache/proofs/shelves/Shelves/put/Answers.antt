@@ -4,18 +4,18 @@ use Rattle.shelf_cache.proofs.Coming.{holds_more, come}
 use Rattle.shelf_cache.specs.Whole.{parts}
 use Rattle.shelf_cache.proofs.shelves.Shelves.put.Goals as goal
 
-pub with-image-requires : goal.with-image-requires
-with-image-requires c = holds_more c.args.self.now c.args.w c.args.h c.args.place c.requires.fit
+pub with_image-requires : goal.with_image-requires
+with_image-requires c = holds_more c.args.self.now c.args.w c.args.h c.args.place c.requires.fit
 
-pub invariant-of-self : goal.invariant-of-self
-invariant-of-self c =
+pub invariant_of-self : goal.invariant_of-self
+invariant_of-self c =
     parts _ _ _ _ _ _ _ (come c.args.self.now c.args.w c.args.h c.args.place c.requires.fit (search rules) (search rules) (search rules)
-    c.with-shelf.result c.with-shelf.ensures c.with-image.result c.with-image.ensures c.spot-on.result c.spot-on.ensures).sound
+    c.with_shelf.result c.with_shelf.ensures c.with_image.result c.with_image.ensures c.spot_on.result c.spot_on.ensures).sound
 
 pub returns : goal.returns
 returns c =
     let k = come c.args.self.now c.args.w c.args.h c.args.place c.requires.fit (search rules) (search rules) (search rules)
-    c.with-shelf.result c.with-shelf.ensures c.with-image.result c.with-image.ensures c.spot-on.result c.spot-on.ensures in
+    c.with_shelf.result c.with_shelf.ensures c.with_image.result c.with_image.ensures c.spot_on.result c.spot_on.ensures in
     record {
       adds = k.adds (ap is_some c.requires.chosen);
       put = record { place = c.args.place; chosen = c.requires.chosen; fit = c.requires.fit; image = k.image; shelves = k.shelf; standing = k.stands };

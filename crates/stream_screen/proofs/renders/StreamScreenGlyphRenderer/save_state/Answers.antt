@@ -2,5 +2,5 @@
 use Rattle.std.proofs.Common.{arith}
 use Rattle.stream_screen.proofs.renders.StreamScreenGlyphRenderer.save_state.Goals as goal
 
-pub returns-in-err-state : goal.returns-in-err-state
-returns-in-err-state c = absurd (omega (arith, c.in-err-state.ensures))
+pub returns-in_err-state : goal.returns-in_err-state
+returns-in_err-state c = absurd (omega (arith, c.in_err-state.ensures))

@@ -3,16 +3,16 @@ use Rattle.std.proofs.Common.{refl, arith}
 use Rattle.stream_screen.proofs.Streams.{record_short, calls-added, whole-added}
 use Rattle.stream_screen.proofs.screen.StreamScreen.append.Goals as goal
 
-pub invariant-of-self : goal.invariant-of-self
-invariant-of-self c =
-    let w = c.put-call.ensures.wrote in
-    (omega (arith, w.more, w.long, record_short c.args.call), (whole-added _ _ _ _ c.args.call c.args.self.now.whole c.put-call.ensures.fits w, tt))
+pub invariant_of-self : goal.invariant_of-self
+invariant_of-self c =
+    let w = c.put_call.ensures.wrote in
+    (omega (arith, w.more, w.long, record_short c.args.call), (whole-added _ _ _ _ c.args.call c.args.self.now.whole c.put_call.ensures.fits w, tt))
 
 pub returns : goal.returns
 returns c =
-    let w = c.put-call.ensures.wrote in
+    let w = c.put_call.ensures.wrote in
     record {
-      calls = calls-added _ _ _ _ c.args.call c.args.self.now.whole c.put-call.ensures.fits w;
+      calls = calls-added _ _ _ _ c.args.call c.args.self.now.whole c.put_call.ensures.fits w;
       used = omega (arith, w.more, record_short c.args.call);
       long = w.long;
       states = refl;

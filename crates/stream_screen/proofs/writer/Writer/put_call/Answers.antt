@@ -4,6 +4,6 @@ use Rattle.stream_screen.proofs.writer.Writer.put_call.Goals as goal
 
 pub returns : goal.returns
 returns c = record {
-  wrote = let w = wrote_both (wrote_both c.put-u16.ensures c.put-u16-2.ensures) c.put-payload.ensures.wrote in simp (c.payload-length.ensures, c.kind.ensures) at w;
-  fits = c.put-payload.ensures.fits;
+  wrote = let w = wrote_both (wrote_both c.put_u16.ensures c.put_u16-2.ensures) c.put_payload.ensures.wrote in simp (c.payload_length.ensures, c.kind.ensures) at w;
+  fits = c.put_payload.ensures.fits;
 }

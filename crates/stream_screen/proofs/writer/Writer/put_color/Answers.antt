@@ -4,6 +4,6 @@ use Rattle.stream_screen.proofs.writer.Writer.put_color.Goals as goal
 
 pub returns : goal.returns
 returns c = record {
-  wrote = wrote_both (wrote_both (wrote_both c.put-f32.ensures.wrote c.put-f32-2.ensures.wrote) c.put-f32-3.ensures.wrote) c.put-f32-4.ensures.wrote;
-  fits = record { r_fits = c.put-f32.ensures.fits; g_fits = c.put-f32-2.ensures.fits; b_fits = c.put-f32-3.ensures.fits; a_fits = c.put-f32-4.ensures.fits };
+  wrote = wrote_both (wrote_both (wrote_both c.put_f32.ensures.wrote c.put_f32-2.ensures.wrote) c.put_f32-3.ensures.wrote) c.put_f32-4.ensures.wrote;
+  fits = record { r_fits = c.put_f32.ensures.fits; g_fits = c.put_f32-2.ensures.fits; b_fits = c.put_f32-3.ensures.fits; a_fits = c.put_f32-4.ensures.fits };
 }

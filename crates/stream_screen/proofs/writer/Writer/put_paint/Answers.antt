@@ -3,7 +3,7 @@ use Rattle.stream_screen.proofs.Bytes.{wrote_both}
 use Rattle.stream_screen.proofs.writer.Writer.put_paint.Goals as goal
 
 pub returns-in-Solid : goal.returns-in-Solid
-returns-in-Solid c = rw c.in-Solid.is (record { wrote = wrote_both c.put-u8.ensures c.put-color.ensures.wrote; fits = c.put-color.ensures.fits })
+returns-in-Solid c = rw c.in-Solid.is (record { wrote = wrote_both c.put_u8.ensures c.put_color.ensures.wrote; fits = c.put_color.ensures.fits })
 
 pub returns-in-Gradient : goal.returns-in-Gradient
-returns-in-Gradient c = rw c.in-Gradient.is (record { wrote = wrote_both c.put-u8-in-Gradient.ensures c.put-u32.ensures.wrote; fits = c.put-u32.ensures.fits })
+returns-in-Gradient c = rw c.in-Gradient.is (record { wrote = wrote_both c.put_u8-in-Gradient.ensures c.put_u32.ensures.wrote; fits = c.put_u32.ensures.fits })

@@ -4,6 +4,6 @@ use Rattle.stream_screen.proofs.writer.Writer.put_path.Goals as goal
 
 pub returns : goal.returns
 returns c = record {
-  wrote = wrote_both c.put-u32.ensures.wrote c.put-rect.ensures.wrote;
-  fits = record { handle_fits = c.put-u32.ensures.fits; bounds_fit = c.put-rect.ensures.fits };
+  wrote = wrote_both c.put_u32.ensures.wrote c.put_rect.ensures.wrote;
+  fits = record { handle_fits = c.put_u32.ensures.fits; bounds_fit = c.put_rect.ensures.fits };
 }

@@ -3,7 +3,7 @@ use Rattle.stream_screen.proofs.Bytes.{wrote_both}
 use Rattle.stream_screen.proofs.writer.Writer.put_picture.Goals as goal
 
 pub returns-in-PixmapHandle : goal.returns-in-PixmapHandle
-returns-in-PixmapHandle c = rw c.in-PixmapHandle.is (record { wrote = wrote_both c.put-u8.ensures (wrote_both c.put-u32.ensures.wrote c.put-quality.ensures); fits = c.put-u32.ensures.fits })
+returns-in-PixmapHandle c = rw c.in-PixmapHandle.is (record { wrote = wrote_both c.put_u8.ensures (wrote_both c.put_u32.ensures.wrote c.put_quality.ensures); fits = c.put_u32.ensures.fits })
 
 pub returns-in-AtlasPage : goal.returns-in-AtlasPage
-returns-in-AtlasPage c = rw c.in-AtlasPage.is (record { wrote = wrote_both c.put-u8-in-AtlasPage.ensures (wrote_both c.put-u32-in-AtlasPage.ensures.wrote c.put-quality-in-AtlasPage.ensures); fits = c.put-u32-in-AtlasPage.ensures.fits })
+returns-in-AtlasPage c = rw c.in-AtlasPage.is (record { wrote = wrote_both c.put_u8-in-AtlasPage.ensures (wrote_both c.put_u32-in-AtlasPage.ensures.wrote c.put_quality-in-AtlasPage.ensures); fits = c.put_u32-in-AtlasPage.ensures.fits })

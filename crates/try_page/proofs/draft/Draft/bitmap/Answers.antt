@@ -12,7 +12,7 @@ unfolding of_bits corner
 returns c = record {
   of_pixmap = search rules;
   of_area =
-      c.unwrap-or.ensures
+      c.unwrap_or.ensures
       ∙ ap (λ (x : Float). unwrap_or c.args.self.now.area (corner x c.from-2.result)) c.from.ensures
-      ∙ ap (λ (y : Float). unwrap_or c.args.self.now.area (corner (of_int binary64 (pos c.in-ok-width.width)) y)) c.from-2.ensures;
+      ∙ ap (λ (y : Float). unwrap_or c.args.self.now.area (corner (of_int binary64 (pos c.in_ok-width.width)) y)) c.from-2.ensures;
 }

@@ -3,4 +3,4 @@ use Rattle.try_page.proofs.draft.Draft.fraction.Goals as goal
 
 pub returns : goal.returns
 unfolding of_bits
-returns c = c.unwrap-or.ensures
+returns c = c.unwrap_or.ensures

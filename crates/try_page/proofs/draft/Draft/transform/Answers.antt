@@ -6,8 +6,8 @@ use Rattle.try_page.proofs.draft.Draft.transform.Goals as goal
 
 pub returns-in-Outline : goal.returns-in-Outline
 unfolding of_bits
-returns-in-Outline c = c.unwrap-or.ensures ∙ ap (λ (k : Kind). unwrap_or c.args.self.now.transform (usual_transform k)) (sym c.in-Outline.is)
+returns-in-Outline c = c.unwrap_or.ensures ∙ ap (λ (k : Kind). unwrap_or c.args.self.now.transform (usual_transform k)) (sym c.in-Outline.is)
 
 pub returns-in-Bitmap : goal.returns-in-Bitmap
 unfolding of_bits
-returns-in-Bitmap c = c.unwrap-or-in-Bitmap.ensures ∙ ap (λ (k : Kind). unwrap_or c.args.self.now.transform (usual_transform k)) (sym c.in-Bitmap.is)
+returns-in-Bitmap c = c.unwrap_or-in-Bitmap.ensures ∙ ap (λ (k : Kind). unwrap_or c.args.self.now.transform (usual_transform k)) (sym c.in-Bitmap.is)

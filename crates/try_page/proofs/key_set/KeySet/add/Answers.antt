@@ -28,7 +28,7 @@ pushed : (b : Bool) (k : GlyphCacheKey) (ks after : List GlyphCacheKey) → afte
 pushed true k ks after e p q = ap repeats e ∙ still_once k ks p q
 pushed false k ks after e p q = ap repeats e ∙ p
 
-pub invariant-of-self : goal.invariant-of-self
-invariant-of-self c =
-    let new : known (vec_items c.args.self.now.items) c.args.key ≡ false = ap (λ (l : List GlyphCacheKey). known l c.args.key) (sym c.as-slice.ensures.value) ∙ sym c.if-is-known.ensures in
+pub invariant_of-self : goal.invariant_of-self
+invariant_of-self c =
+    let new : known (vec_items c.args.self.now.items) c.args.key ≡ false = ap (λ (l : List GlyphCacheKey). known l c.args.key) (sym c.as_slice.ensures.value) ∙ sym c.if-is_known.ensures in
     (pushed (is_ok c.push.result) c.args.key (vec_items c.args.self.now.items) (vec_items c.push.new.self) c.push.ensures.items c.args.self.now.once new, tt)

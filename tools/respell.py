@@ -22,7 +22,7 @@ BY_HAND = {
     ("shelf_cache", "shelf-cache"): "cache_of_shelves",
 }
 TOKEN = re.compile(r"[^\s(){}\[\],;.\"`@:λ/|]+|/")
-SIGNATURE = re.compile(r"^(?:abbrev |unfoldable )?(?:pub )?(?:abbrev )?(?:pub )?([A-Za-z_][^\s:(){}.,;]*) :(?: |$)(.*)$")
+SIGNATURE = re.compile(r"^ *(?:abbrev |unfoldable )?(?:pub )?(?:abbrev )?(?:pub )?([A-Za-z_][^\s:(){}.,;]*) :(?: |$)(.*)$")
 RECORD = re.compile(r"^(?:pub )?(?:record|data) ([A-Za-z_][^\s:(){}.,;]*)")
 MEMBER = re.compile(r"^ +(?:pub )?([A-Za-z_][^\s:(){}.,;]*) :(?: |$)")
 CONSTRUCTOR = re.compile(r"^ +\| ?([A-Za-z_][^\s:(){}.,;]*)")
@@ -176,7 +176,7 @@ def main():
             open(path, "w", encoding="utf-8").write(new)
     for path in list(files(".md", "docs")) + ["README.md"]:
         text = open(path, encoding="utf-8").read()
-        new = swap_quoted(text, every)
+        new = swap_quoted(text, {n: v for n, v in every.items() if len(n) > 1})
         if new != text:
             open(path, "w", encoding="utf-8").write(new)
 

@@ -7,7 +7,7 @@ use Rattle.interface.specs.declared.values.AtlasCommand.{AtlasCommand}
 use Rattle.pages.specs.declared.recorder.AtlasCommandRecorder.{AtlasCommandRecorder}
 use Rattle.pages.specs.Pages.{Page, page_of, with_more}
 use Rattle.atlas_pages.specs.AllPages.{add_commands, crowded, any_crowded}
-use Rattle.atlas_pages.proofs.Changing.{changed-to, same_length}
+use Rattle.atlas_pages.proofs.Changing.{changed_to, same_length}
 
 by_test : (b : Bool) (cs : List AtlasCommand) (p : Page) → (cond b (with_more p cs) p).number ≡ p.number
 by_test true cs p = refl
@@ -36,7 +36,7 @@ here_unchanged f ps i d h =
     let l : length (map f (take i ps)) ≡ i = length-map (take i ps) f ∙ length-take-le i ps (omega arith) in
     search (rules, places)
 
-pub still_roomy : (f : Page → Page) (xs ys : List AtlasCommandRecorder) (i : ℕ) (x : AtlasCommandRecorder) → i < length ys → map page_of ys ≡ changed-to f xs i → any_crowded (map page_of xs) ≡ false → crowded (page_of (get_or ys i x)) ≡ false
+pub still_roomy : (f : Page → Page) (xs ys : List AtlasCommandRecorder) (i : ℕ) (x : AtlasCommandRecorder) → i < length ys → map page_of ys ≡ changed_to f xs i → any_crowded (map page_of xs) ≡ false → crowded (page_of (get_or ys i x)) ≡ false
 still_roomy f xs ys i x h inv e =
     let k = same_length f xs ys i inv in
     let lt : i < length (map page_of xs) = simp length-map (omega arith) in

@@ -93,8 +93,8 @@ module _ (f : Format) where
             )
       ]
 
-  pub left-value : (s : Bool) (m : ℕ) (e : ℤ) → T (fits f (fin s m e)) → HasValue (sub f (fin s m e) (trunc f (fin s m e))) (s && ltb 0 (units_at f m e % units_in_one)) (units_at f m e % units_in_one) units_in_one
-  left-value s m e h =
+  pub left_value : (s : Bool) (m : ℕ) (e : ℤ) → T (fits f (fin s m e)) → HasValue (sub f (fin s m e) (trunc f (fin s m e))) (s && ltb 0 (units_at f m e % units_in_one)) (units_at f m e % units_in_one) units_in_one
+  left_value s m e h =
       let w = whole f s m e h in
       let a = m * up e in
       let d = down e in

@@ -8,7 +8,7 @@ use borrow.Author.Tests.{lt-leb}
 use lib.Ieee.{Float, nan, inf, fin, binary64, up, down, below, level, lt, eq, le, fits}
 use lib.Ieee.Fits.{down_pos}
 use Rattle.std.specs.Float.{float_is_finite}
-use Rattle.floats.proofs.Scaling.{ltb-scale, eqb-scale}
+use Rattle.floats.proofs.Scaling.{ltb_scale, eqb_scale}
 use Rattle.floats.proofs.Units.{whole, units_at, units_cross}
 use Rattle.floats.specs.Units.{units_of}
 
@@ -16,16 +16,16 @@ module _ (u v : ℕ) (units_in_one : 0 < u) (V : 0 < v) where
   nought : 0 * u ≡ 0 * v
   nought = zero-mul u ∙ sym (zero-mul v)
 
-  below-scale : (s t : Bool) (a b m n : ℕ) → a * u ≡ m * v → b * u ≡ n * v → below s a t b ≡ below s m t n
-  below-scale false false a b m n p q = ltb-scale u v units_in_one V a b m n p q
-  below-scale false true a b m n p q = refl
-  below-scale true false a b m n p q = ltb-scale u v units_in_one V 0 (a + b) 0 (m + n) nought (omega arith)
-  below-scale true true a b m n p q = ltb-scale u v units_in_one V b a n m q p
+  below_scale : (s t : Bool) (a b m n : ℕ) → a * u ≡ m * v → b * u ≡ n * v → below s a t b ≡ below s m t n
+  below_scale false false a b m n p q = ltb_scale u v units_in_one V a b m n p q
+  below_scale false true a b m n p q = refl
+  below_scale true false a b m n p q = ltb_scale u v units_in_one V 0 (a + b) 0 (m + n) nought (omega arith)
+  below_scale true true a b m n p q = ltb_scale u v units_in_one V b a n m q p
 
-  level-scale : (s t : Bool) (a b m n : ℕ) → a * u ≡ m * v → b * u ≡ n * v → level s a t b ≡ level s m t n
-  level-scale s t a b m n p q =
-      ap (λ (x : Bool). x && (beq s t || eqb a 0)) (eqb-scale u v units_in_one V a b m n p q)
-      ∙ ap (λ (x : Bool). eqb m n && (beq s t || x)) (eqb-scale u v units_in_one V a 0 m 0 p nought)
+  level_scale : (s t : Bool) (a b m n : ℕ) → a * u ≡ m * v → b * u ≡ n * v → level s a t b ≡ level s m t n
+  level_scale s t a b m n p q =
+      ap (λ (x : Bool). x && (beq s t || eqb a 0)) (eqb_scale u v units_in_one V a b m n p q)
+      ∙ ap (λ (x : Bool). eqb m n && (beq s t || x)) (eqb_scale u v units_in_one V a 0 m 0 p nought)
 
 -- ±m and ±n
 abbrev signed : Bool → ℕ → ℤ
@@ -62,8 +62,8 @@ le_units (fin s m e) (fin t n g) h k p q =
     let y : b * down e * u ≡ K * (down e * down g) = mul_right_comm b (down e) u ∙ ap (λ (z : ℕ). z * down e) (units_cross binary64 n g (whole binary64 t n g k)) ∙ mul_assoc K (down g) (down e) ∙ ap (λ (z : ℕ). K * z) (mul_comm (down g) (down e)) in
     let V : 0 < down e * down g = mul-pos (down_pos e) (down_pos g) in
     opened s m e t n g
-    ∙ ap (λ (z : Bool). z || level s (a * down g) t (b * down e)) (below-scale u (down e * down g) (pow_pos 1074) V s t (a * down g) (b * down e) M K x y)
-    ∙ ap (λ (z : Bool). below s M t K || z) (level-scale u (down e * down g) (pow_pos 1074) V s t (a * down g) (b * down e) M K x y)
+    ∙ ap (λ (z : Bool). z || level s (a * down g) t (b * down e)) (below_scale u (down e * down g) (pow_pos 1074) V s t (a * down g) (b * down e) M K x y)
+    ∙ ap (λ (z : Bool). below s M t K || z) (level_scale u (down e * down g) (pow_pos 1074) V s t (a * down g) (b * down e) M K x y)
     ∙ le_signed s t M K
 
 -- ---- strictly
@@ -98,5 +98,5 @@ lt_units (fin s m e) (fin t n g) h k p q =
     let y : b * down e * u ≡ K * (down e * down g) = mul_right_comm b (down e) u ∙ ap (λ (z : ℕ). z * down e) (units_cross binary64 n g (whole binary64 t n g k)) ∙ mul_assoc K (down g) (down e) ∙ ap (λ (z : ℕ). K * z) (mul_comm (down g) (down e)) in
     let V : 0 < down e * down g = mul-pos (down_pos e) (down_pos g) in
     lt_opened s m e t n g
-    ∙ below-scale u (down e * down g) (pow_pos 1074) V s t (a * down g) (b * down e) M K x y
+    ∙ below_scale u (down e * down g) (pow_pos 1074) V s t (a * down g) (b * down e) M K x y
     ∙ lt_signed s t M K

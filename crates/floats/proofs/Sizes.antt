@@ -60,20 +60,20 @@ number (fin s m e) h = tt
 
 -- ---- against a literal
 module _ (x : Float) (h : T (fits binary64 x)) (p : T (float_is_finite x)) (k n : ℕ) (l : Lit k n) where
-  pub size-at-most : (y : Float) → y ≡ float_with_sign false x → le y (of_bits binary64 k) ≡ leb (nat_abs (units_of x)) n
-  size-at-most y e =
+  pub size_at_most : (y : Float) → y ≡ float_with_sign false x → le y (of_bits binary64 k) ≡ leb (nat_abs (units_of x)) n
+  size_at_most y e =
       ap (λ (z : Float). le z (of_bits binary64 k)) e
       ∙ le_units (float_with_sign false x) (of_bits binary64 k) (size_fits x h) (of_bits-fits binary64 k) (size_finite x p) l.0
       ∙ (λ i. le_z (size_units x i) (l.1 i))
 
-  pub size-at-least : (y : Float) → y ≡ float_with_sign false x → le (of_bits binary64 k) y ≡ leb n (nat_abs (units_of x))
-  size-at-least y e =
+  pub size_at_least : (y : Float) → y ≡ float_with_sign false x → le (of_bits binary64 k) y ≡ leb n (nat_abs (units_of x))
+  size_at_least y e =
       ap (λ (z : Float). le (of_bits binary64 k) z) e
       ∙ le_units (of_bits binary64 k) (float_with_sign false x) (of_bits-fits binary64 k) (size_fits x h) l.0 (size_finite x p)
       ∙ (λ i. le_z (l.1 i) (size_units x i))
 
-  pub above-lit : lt (of_bits binary64 k) x ≡ lt_z (pos n) (units_of x)
-  above-lit = lt_units (of_bits binary64 k) x (of_bits-fits binary64 k) h l.0 p ∙ ap (λ (z : ℤ). lt_z z (units_of x)) l.1
+  pub above_lit : lt (of_bits binary64 k) x ≡ lt_z (pos n) (units_of x)
+  above_lit = lt_units (of_bits binary64 k) x (of_bits-fits binary64 k) h l.0 p ∙ ap (λ (z : ℤ). lt_z z (units_of x)) l.1
 
-  pub below-lit : lt x (of_bits binary64 k) ≡ lt_z (units_of x) (pos n)
-  below-lit = lt_units x (of_bits binary64 k) h (of_bits-fits binary64 k) p l.0 ∙ ap (lt_z (units_of x)) l.1
+  pub below_lit : lt x (of_bits binary64 k) ≡ lt_z (units_of x) (pos n)
+  below_lit = lt_units x (of_bits binary64 k) h (of_bits-fits binary64 k) p l.0 ∙ ap (lt_z (units_of x)) l.1

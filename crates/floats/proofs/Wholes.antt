@@ -10,27 +10,27 @@ neg_times (pos (suc n)) u = negsuc-*ℤ-pos n u ∙ sym (ap neg_ℤ (pos-*ℤ-po
 neg_times (negsuc n) u = pos-*ℤ-pos (suc n) u ∙ sym (ap neg_ℤ (negsuc-*ℤ-pos n u) ∙ neg_ℤ-neg_ℤ (pos (suc n * u)))
 
 module _ (u : ℕ) (units_in_one : 0 < u) where
-  pub floor-not-above : (z : ℤ) → (floor_by u z *ℤ pos u) ≤ℤ z
-  floor-not-above (pos n) = omega (arith, ints, div-add-mod' n u)
-  floor-not-above (negsuc n) = let l = mod-lt n units_in_one in omega (arith, ints, div-add-mod' n u, suc-mul (n / u) u)
+  pub floor_not_above : (z : ℤ) → (floor_by u z *ℤ pos u) ≤ℤ z
+  floor_not_above (pos n) = omega (arith, ints, div-add-mod' n u)
+  floor_not_above (negsuc n) = let l = mod-lt n units_in_one in omega (arith, ints, div-add-mod' n u, suc-mul (n / u) u)
 
-  pub floor-next : (z : ℤ) → z <ℤ ((floor_by u z +ℤ pos 1) *ℤ pos u)
-  floor-next (pos n) = let l = mod-lt n units_in_one in omega (arith, ints, div-add-mod' n u, add-mul (n / u) 1 u)
-  floor-next (negsuc n) =
+  pub floor_next : (z : ℤ) → z <ℤ ((floor_by u z +ℤ pos 1) *ℤ pos u)
+  floor_next (pos n) = let l = mod-lt n units_in_one in omega (arith, ints, div-add-mod' n u, add-mul (n / u) 1 u)
+  floor_next (negsuc n) =
       let e : negsuc (n / u) +ℤ pos 1 ≡ neg_ℤ (pos (n / u)) = omega (arith, ints) in
       subst (λ (k : ℤ). negsuc n <ℤ k) (sym (ap (λ (k : ℤ). k *ℤ pos u) e ∙ neg_times (pos (n / u)) u)) (omega (arith, ints, div-add-mod' n u))
 
-  abbrev ceilBy : ℤ → ℤ
-  ceilBy z = neg_ℤ (floor_by u (neg_ℤ z))
+  abbrev ceil_by : ℤ → ℤ
+  ceil_by z = neg_ℤ (floor_by u (neg_ℤ z))
 
-  pub ceil-not-below : (z : ℤ) → z ≤ℤ (ceilBy z *ℤ pos u)
-  ceil-not-below z =
-      let h = floor-not-above (neg_ℤ z) in
+  pub ceil_not_below : (z : ℤ) → z ≤ℤ (ceil_by z *ℤ pos u)
+  ceil_not_below z =
+      let h = floor_not_above (neg_ℤ z) in
       subst (λ (k : ℤ). z ≤ℤ k) (sym (neg_times (floor_by u (neg_ℤ z)) u)) (omega (arith, ints))
 
-  pub ceil-next : (z : ℤ) → ((ceilBy z -ℤ pos 1) *ℤ pos u) <ℤ z
-  ceil-next z =
+  pub ceil_next : (z : ℤ) → ((ceil_by z -ℤ pos 1) *ℤ pos u) <ℤ z
+  ceil_next z =
       let f = floor_by u (neg_ℤ z) in
-      let h = floor-next (neg_ℤ z) in
+      let h = floor_next (neg_ℤ z) in
       let e : neg_ℤ f -ℤ pos 1 ≡ neg_ℤ (f +ℤ pos 1) = omega (arith, ints) in
       subst (λ (k : ℤ). k <ℤ z) (sym (ap (λ (k : ℤ). k *ℤ pos u) e ∙ neg_times (f +ℤ pos 1) u)) (omega (arith, ints))

@@ -66,14 +66,14 @@ module _ (t a : ℕ) (xs : List GlyphCacheEntry) (k₀ : List PendingClearRect) 
   one_more : (b : Bool) → aged t a e ≡ b → filter (aged t a) (take (i + 1) xs) ≡ filter (aged t a) (take i xs) ++ cond b (e ∷ []) []
   one_more b p = filter_more (aged t a) xs i e l ∙ ap (λ ys. filter (aged t a) (take i xs) ++ ys) (ap (λ x. cond (aged t a x) (x ∷ []) []) (sym is) ∙ ap (λ q. cond q (e ∷ []) []) p)
 
-  pub gone-stays : aged t a e ≡ false → Gone t a xs k₀ c₀ (i + 1) k c
-  gone-stays p =
+  pub gone_stays : aged t a e ≡ false → Gone t a xs k₀ c₀ (i + 1) k c
+  gone_stays p =
       let m = one_more false p ∙ append-nil (filter (aged t a) (take i xs)) in
       let P : List GlyphCacheEntry → Type 0 = λ es. FreedAll c₀ (ids_of es) c in
       record { few = omega (arith, ap length m, g.few); cleared = g.cleared ∙ ap (λ es. k₀ ++ clears_of es) (sym m); freed = subst P (sym m) g.freed }
 
-  pub gone-more : aged t a e ≡ true → length k₀ + length xs ≤ 256 → (r : Result (Unit {0}) CacheFault) (d : Cache) → Freed c (id_of e) r d → (k' : List PendingClearRect) → k' ≡ appended 256 k (clear_of e) → Gone t a xs k₀ c₀ (i + 1) k' d
-  gone-more p room r d f k' q =
+  pub gone_more : aged t a e ≡ true → length k₀ + length xs ≤ 256 → (r : Result (Unit {0}) CacheFault) (d : Cache) → Freed c (id_of e) r d → (k' : List PendingClearRect) → k' ≡ appended 256 k (clear_of e) → Gone t a xs k₀ c₀ (i + 1) k' d
+  gone_more p room r d f k' q =
       let es : List GlyphCacheEntry = filter (aged t a) (take i xs) in
       let m = one_more true p in
       let kl : length k ≡ length k₀ + length es = ap length g.cleared ∙ (length-append k₀ (clears_of es) ∙ ap (λ n. length k₀ + n) (length_clears es)) in

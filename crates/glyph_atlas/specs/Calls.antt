@@ -163,13 +163,13 @@ Replays a (refused f) b = (0 < length a.clears) × (atlas_number f ≡ 7) × (b 
 
 module _ {S F : Type 0} (takes : S → Page → Result (Unit {0}) F → S → Type 0) where
   -- the answer r, and the target after it, are those of what came of the replay
-  abbrev pub Told-by : S → Told → Result (Result (Unit {0}) F) AtlasFault → S → Type 0
-  Told-by t (refused f) r u = (r ≡ Err f) × (u ≡ t)
-  Told-by t (accepted ps failed) r u =
+  abbrev pub ToldBy : S → Told → Result (Result (Unit {0}) F) AtlasFault → S → Type 0
+  ToldBy t (refused f) r u = (r ≡ Err f) × (u ≡ t)
+  ToldBy t (accepted ps failed) r u =
       (q : Result (Unit {0}) F) × ((r ≡ Ok q) × (failed ≡ has_failed q) × Offered takes ps t q u)
 
   abbrev pub Replayed : Atlas → S → Result (Result (Unit {0}) F) AtlasFault → Atlas → S → Type 0
-  Replayed a t r b u = (told : Told) × (Replays a told b × Told-by t told r u)
+  Replayed a t r b u = (told : Told) × (Replays a told b × ToldBy t told r u)
 
 -- Maintain
 

@@ -13,7 +13,7 @@ use Rattle.std.specs.Float.{round_with, trunc, float_round, float_one, float_zer
 use Rattle.floats.specs.Units.{units_in}
 use Rattle.floats.proofs.Sums.{sum_same, sum_less}
 use Rattle.floats.proofs.Units.{whole, units_at}
-use Rattle.floats.proofs.Fractions.{left-value}
+use Rattle.floats.proofs.Fractions.{left_value}
 use Rattle.glyph_key.specs.Steps.{fraction, near_by_ieee}
 use Rattle.glyph_key.specs.Bucket.{to24, reduced, quarters, near_of, WithinAnEighth}
 
@@ -163,7 +163,7 @@ near_at (fin s m e) h =
     let F = units_at binary32 m e % units_in_one in
     let t = s && ltb 0 F in
     let y = fraction (fin s m e) in
-    let v = turned_value y t F (left-value binary32 s m e h) (negative_pos s F) (mod-lt (units_at binary32 m e) (pow_pos 149)) in
+    let v = turned_value y t F (left_value binary32 s m e h) (negative_pos s F) (mod-lt (units_at binary32 m e) (pow_pos 149)) in
     let fit : T (fits binary32 (turned y)) = cond-fits binary32 (lt y nought) (add binary32 y float_one) y (add-fits binary32 y float_one) (sub-fits binary32 (fin s m e) (trunc binary32 (fin s m e))) in
     near_turned (turned y) (rounded_fraction t F) fit v.0 v.1 ∙ ap quarters (reduced_is s m e)
 

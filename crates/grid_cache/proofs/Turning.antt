@@ -33,8 +33,8 @@ module _ (cell count : ℕ) (words : List ℕ) (sizes : List Size) (i : ℕ) (l 
   others : (j : ℕ) → (j ≡ i → ⊥) → is_taken count (toggled words i) j ≡ is_taken count words j
   others j ne = ap (λ b. ltb j (64 * count) && not b) (free_other words i j l ne)
 
-  pub removed-is : is_taken count words i ≡ true → Removed (cache_of cell count words sizes) i (cache_of cell count (toggled words i) sizes)
-  removed-is t =
+  pub removed_is : is_taken count words i ≡ true → Removed (cache_of cell count words sizes) i (cache_of cell count (toggled words i) sizes)
+  removed_is t =
       let n : is_free words i ≡ false = not-true (is_free words i) (and_parts (ltb i (64 * count)) (not (is_free words i)) t).1 in
       let f : not (is_free (toggled words i) i) ≡ false = ap not (free_same words i l ∙ ap not n) in
       record {

@@ -47,15 +47,15 @@ taken_below count words i t = ltb-true i (64 * count) (and_parts (nat_lt i (64 *
 
 module _ (cell count : ℕ) (words : List ℕ) (sizes : List Size)
     (narrow : (k : ℕ) → (slice_index_or sizes k no_size).w ≤ cell) (low : (k : ℕ) → (slice_index_or sizes k no_size).h ≤ cell) where
-  image-inside : (i : ℕ) → i < 64 * count → Inside (cache_of cell count words sizes) (image_at cell sizes i)
-  image-inside i l = record {
+  image_inside : (i : ℕ) → i < 64 * count → Inside (cache_of cell count words sizes) (image_at cell sizes i)
+  image_inside i l = record {
     page = omega arith;
     right = ahead (i % 8) 8 cell _ (omega arith) (narrow i);
     bottom = ahead (i % 64 / 8) 8 cell _ (omega arith) (low i);
   }
 
-  images-apart : (i j : ℕ) → (i ≢ j) → (p : Pixel) → In p (image_at cell sizes i) → In p (image_at cell sizes j) → ⊥
-  images-apart i j ne p a b =
+  images_apart : (i j : ℕ) → (i ≢ j) → (p : Pixel) → In p (image_at cell sizes i) → In p (image_at cell sizes j) → ⊥
+  images_apart i j ne p a b =
       ne
       (same_cell i j
       (sym a.on_page ∙ b.on_page)
@@ -89,10 +89,10 @@ lawful cell count words sizes large small some few narrow low = record {
   inside = λ i a h.
       let p = live_is cell count words sizes i a h in
       let P : Image → Type 0 = Inside (cache_of cell count words sizes) in
-      subst P (sym p.1) (image-inside cell count words sizes narrow low i (taken_below count words i p.0));
+      subst P (sym p.1) (image_inside cell count words sizes narrow low i (taken_below count words i p.0));
   apart = λ i j a b h k ne q m n.
       let P : Image → Type 0 = In q in
-      images-apart cell count words sizes narrow low i j ne q (subst P (live_is cell count words sizes i a h).1 m) (subst P (live_is cell count words sizes j b k).1 n);
+      images_apart cell count words sizes narrow low i j ne q (subst P (live_is cell count words sizes i a h).1 m) (subst P (live_is cell count words sizes j b k).1 n);
   none_wide = λ h. refl;
   none_high = λ w. and_left (size_fits cell w 0) (any_free words) (and_right (nat_lt 0 w) (nat_le w cell && false) (and_right (nat_le w cell) false refl));
   empty_fits = λ none w h w₀ w₁ h₀ h₁. and_from (size_fits cell w h) (any_free words) (size_from cell w h w₀ w₁ h₀ h₁) (some_free words 0 (first_word words (cell_0_free cell count words sizes some none)));

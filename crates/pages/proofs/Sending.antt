@@ -51,5 +51,5 @@ module _ (old xs cs : List AtlasCommand) (i : ℕ) where
       let x = get_or cs i d in
       more ∙ taken 120 xs x (few h room e) ∙ ap (λ l. l ++ x ∷ []) e ∙ append_assoc old (take i cs) (x ∷ []) ∙ ap (λ l. old ++ l) (sym (take_more cs i d h))
 
-  pub pushed-all : length cs ≤ i → xs ≡ old ++ take i cs → xs ≡ old ++ cs
-  pushed-all h e = e ∙ ap (λ l. old ++ l) (take_all i cs h)
+  pub pushed_all : length cs ≤ i → xs ≡ old ++ take i cs → xs ≡ old ++ cs
+  pushed_all h e = e ∙ ap (λ l. old ++ l) (take_all i cs h)

@@ -3,7 +3,7 @@ use Rattle.std.proofs.Common.{◌≡◌, ℕ, ◌^◌, ◌<◌, Bool, true, fals
 use Rattle.std.proofs.lemmas.Int.{ints}
 use Rattle.floats.specs.Units.{units_of, floor_by}
 use Rattle.floats.proofs.Numbers.{passes}
-use Rattle.floats.proofs.Wholes.{floor-not-above, floor-next, ceil-not-below, ceil-next}
+use Rattle.floats.proofs.Wholes.{floor_not_above, floor_next, ceil_not_below, ceil_next}
 use Rattle.shapes.specs.Numbers.{finite_rect}
 use Rattle.shapes.specs.declared.Rect.{Rect}
 use Rattle.raster.specs.declared.glyph.Glyph.{Glyph}
@@ -63,14 +63,14 @@ module _ (u : ℕ) (U : 0 < u) (x0 y0 x1 y1 : ℤ) (m : RasterMetrics) where
       let r : neg_ℤ (floor_by u (neg_ℤ x1)) ≡ m.left +ℤ pos m.width -ℤ pos 1 = omega (arith, ints, e.right_is) in
       let r2 : neg_ℤ (floor_by u (neg_ℤ x1)) -ℤ pos 1 ≡ m.left +ℤ pos m.width -ℤ pos 2 = omega (arith, ints, e.right_is) in
       record {
-        left_edge = subst (λ (k : ℤ). (k *ℤ pos u) ≤ℤ x0) (sym e.left_is) (floor-not-above u U x0);
-        left_near = subst (λ (k : ℤ). x0 <ℤ ((k +ℤ pos 1) *ℤ pos u)) (sym e.left_is) (floor-next u U x0);
-        right_edge = subst (λ (k : ℤ). x1 ≤ℤ (k *ℤ pos u)) r (ceil-not-below u U x1);
-        right_near = subst (λ (k : ℤ). (k *ℤ pos u) <ℤ x1) r2 (ceil-next u U x1);
-        top_edge = subst (λ (k : ℤ). (k *ℤ pos u) ≤ℤ neg_ℤ y1) (sym e.top_is) (floor-not-above u U (neg_ℤ y1));
-        top_near = subst (λ (k : ℤ). neg_ℤ y1 <ℤ ((k +ℤ pos 1) *ℤ pos u)) (sym e.top_is) (floor-next u U (neg_ℤ y1));
-        bottom_edge = subst (λ (k : ℤ). neg_ℤ y0 ≤ℤ (k *ℤ pos u)) (sym e.bottom_is) (ceil-not-below u U (neg_ℤ y0));
-        bottom_near = subst (λ (k : ℤ). ((k -ℤ pos 1) *ℤ pos u) <ℤ neg_ℤ y0) (sym e.bottom_is) (ceil-next u U (neg_ℤ y0));
+        left_edge = subst (λ (k : ℤ). (k *ℤ pos u) ≤ℤ x0) (sym e.left_is) (floor_not_above u U x0);
+        left_near = subst (λ (k : ℤ). x0 <ℤ ((k +ℤ pos 1) *ℤ pos u)) (sym e.left_is) (floor_next u U x0);
+        right_edge = subst (λ (k : ℤ). x1 ≤ℤ (k *ℤ pos u)) r (ceil_not_below u U x1);
+        right_near = subst (λ (k : ℤ). (k *ℤ pos u) <ℤ x1) r2 (ceil_next u U x1);
+        top_edge = subst (λ (k : ℤ). (k *ℤ pos u) ≤ℤ neg_ℤ y1) (sym e.top_is) (floor_not_above u U (neg_ℤ y1));
+        top_near = subst (λ (k : ℤ). neg_ℤ y1 <ℤ ((k +ℤ pos 1) *ℤ pos u)) (sym e.top_is) (floor_next u U (neg_ℤ y1));
+        bottom_edge = subst (λ (k : ℤ). neg_ℤ y0 ≤ℤ (k *ℤ pos u)) (sym e.bottom_is) (ceil_not_below u U (neg_ℤ y0));
+        bottom_near = subst (λ (k : ℤ). ((k -ℤ pos 1) *ℤ pos u) <ℤ neg_ℤ y0) (sym e.bottom_is) (ceil_next u U (neg_ℤ y0));
       }
 
 box_covered : (b : Rect) (m : RasterMetrics) → from_box b ≡ Ok m → covers_box b m

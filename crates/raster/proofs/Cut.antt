@@ -73,29 +73,29 @@ split true = inl refl
 split false = inr refl
 
 module _ (l r t b : ℤ) where
-  abbrev cut-width : Result ℕ RasterFault
-  cut-width = extent_of (saturate_to_bits 31 r +ℤ pos 1 -ℤ saturate_to_bits 31 l)
+  abbrev cut_width : Result ℕ RasterFault
+  cut_width = extent_of (saturate_to_bits 31 r +ℤ pos 1 -ℤ saturate_to_bits 31 l)
 
-  abbrev cut-height : Result ℕ RasterFault
-  cut-height = extent_of (saturate_to_bits 31 b -ℤ saturate_to_bits 31 t)
+  abbrev cut_height : Result ℕ RasterFault
+  cut_height = extent_of (saturate_to_bits 31 b -ℤ saturate_to_bits 31 t)
 
-  joined-cut : joined cut-width cut-height (bearing_of (saturate_to_bits 31 l)) (bearing_of (saturate_to_bits 31 t)) ≡ joined (extent_of (r +ℤ pos 1 -ℤ l)) (extent_of (b -ℤ t)) (bearing_of l) (bearing_of t)
-  joined-cut =
+  joined_cut : joined cut_width cut_height (bearing_of (saturate_to_bits 31 l)) (bearing_of (saturate_to_bits 31 t)) ≡ joined (extent_of (r +ℤ pos 1 -ℤ l)) (extent_of (b -ℤ t)) (bearing_of l) (bearing_of t)
+  joined_cut =
       elim (split (is_bearing l)) [
         | inr x ↦
-            (λ i. joined cut-width cut-height ((sat_bearing l ∙ bearing_no l x) i) (bearing_of (saturate_to_bits 31 t)))
-            ∙ no_left cut-width cut-height Metrics (bearing_of (saturate_to_bits 31 t))
+            (λ i. joined cut_width cut_height ((sat_bearing l ∙ bearing_no l x) i) (bearing_of (saturate_to_bits 31 t)))
+            ∙ no_left cut_width cut_height Metrics (bearing_of (saturate_to_bits 31 t))
             ∙ sym (no_left (extent_of (r +ℤ pos 1 -ℤ l)) (extent_of (b -ℤ t)) Metrics (bearing_of t))
             ∙ (λ i. joined (extent_of (r +ℤ pos 1 -ℤ l)) (extent_of (b -ℤ t)) (sym (bearing_no l x) i) (bearing_of t))
         | inl x ↦ elim (split (is_bearing t)) [
           | inr y ↦
-              (λ i. joined cut-width cut-height (bearing_of (saturate_to_bits 31 l)) ((sat_bearing t ∙ bearing_no t y) i))
-              ∙ no_top cut-width cut-height (bearing_of (saturate_to_bits 31 l)) Metrics
+              (λ i. joined cut_width cut_height (bearing_of (saturate_to_bits 31 l)) ((sat_bearing t ∙ bearing_no t y) i))
+              ∙ no_top cut_width cut_height (bearing_of (saturate_to_bits 31 l)) Metrics
               ∙ sym (no_top (extent_of (r +ℤ pos 1 -ℤ l)) (extent_of (b -ℤ t)) (bearing_of l) Metrics)
               ∙ (λ i. joined (extent_of (r +ℤ pos 1 -ℤ l)) (extent_of (b -ℤ t)) (bearing_of l) (sym (bearing_no t y) i))
           | inl y ↦ λ i. joined (sat_size l r x i) (sat_height t b y i) (sat_bearing l i) (sat_bearing t i)
         ]
       ]
 
-  pub edges-cut : from_edges (saturate_to_bits 31 l) (saturate_to_bits 31 r +ℤ pos 1) (saturate_to_bits 31 t) (saturate_to_bits 31 b) ≡ from_edges l (r +ℤ pos 1) t b
-  edges-cut = sym (by_parts (saturate_to_bits 31 l) (saturate_to_bits 31 r +ℤ pos 1) (saturate_to_bits 31 t) (saturate_to_bits 31 b)) ∙ joined-cut ∙ by_parts l (r +ℤ pos 1) t b
+  pub edges_cut : from_edges (saturate_to_bits 31 l) (saturate_to_bits 31 r +ℤ pos 1) (saturate_to_bits 31 t) (saturate_to_bits 31 b) ≡ from_edges l (r +ℤ pos 1) t b
+  edges_cut = sym (by_parts (saturate_to_bits 31 l) (saturate_to_bits 31 r +ℤ pos 1) (saturate_to_bits 31 t) (saturate_to_bits 31 b)) ∙ joined_cut ∙ by_parts l (r +ℤ pos 1) t b

@@ -11,7 +11,7 @@ use Rattle.shelf_cache.specs.Places.{cache_of, live_of, image_of, cache_of_shelv
 use Rattle.shelf_cache.proofs.Meanings.{live_here, added_is}
 use Rattle.shelf_cache.specs.First.{count_le}
 use Rattle.shelf_cache.specs.Placing.{admits_is}
-use Rattle.shelf_cache.proofs.Putting.{put-sound}
+use Rattle.shelf_cache.proofs.Putting.{put_sound}
 use Rattle.shelf_cache.proofs.Ready.{Ready, ready}
 use Rattle.shelf_cache.specs.Whole.{sound_of}
 
@@ -29,12 +29,12 @@ module _ (g : Shelves) (w h : ℕ) (p : Place) (fit : FitIn g w h p) where
   pub spare : g.live < 256
   spare = size.0
 
-  ready-here : Ready g.width g.height g.count g.shelves g.standing g.spots g.live w h p
-  ready-here = ready g.width g.height g.count g.shelves g.standing g.spots g.live (sound_of g) w h size.2 p fit
+  ready_here : Ready g.width g.height g.count g.shelves g.standing g.spots g.live w h p
+  ready_here = ready g.width g.height g.count g.shelves g.standing g.spots g.live (sound_of g) w h size.2 p fit
 
   -- the shelf has room for the width and the count
   pub holds_more : (p.shelf.used + w ≤ 65535) × (p.shelf.images < 256)
-  holds_more = (omega (arith, ready-here.room, g.wide), omega (arith, spare, ready-here.counted, count_le (stands_on g.spots p.at) g.live))
+  holds_more = (omega (arith, ready_here.room, g.wide), omega (arith, spare, ready_here.counted, count_le (stands_on g.spots p.at) g.live))
 
   pub come : length g.spots ≡ 256 → length g.shelves ≡ 64 → length g.standing ≡ 4
       → (n : ℕ) → n ≡ reach (on_page g.standing (p.at / 16)) (p.at % 16) → (z : Shelf) → z ≡ filled p.shelf w → (a : Spot) → a ≡ put_on (spot_at g.spots g.live).id p w h
@@ -45,7 +45,7 @@ module _ (g : Shelves) (w h : ℕ) (p : Place) (fit : FitIn g w h p) where
       let standing : List ℕ = raised g.standing p.at in
       let t = fit.there in
       let l : g.live < length g.spots = omega (arith, spare) in
-      let S = put-sound g.width g.height g.count g.shelves g.standing g.spots g.live (sound_of g) w h size.1 size.3 p ready-here (omega arith) (omega arith) spare l in
+      let S = put_sound g.width g.height g.count g.shelves g.standing g.spots g.live (sound_of g) w h size.1 size.3 p ready_here (omega arith) (omega arith) spare l in
       let N : ℕ → Type 0 = λ n. Come g w h i p (set g.shelves p.at z) (set g.standing (p.at / 16) n) (set g.spots g.live a) in
       let T : Shelf → Type 0 = λ z. Come g w h i p (set g.shelves p.at z) standing (set g.spots g.live a) in
       let U : Spot → Type 0 = λ a. Come g w h i p shelves standing (set g.spots g.live a) in

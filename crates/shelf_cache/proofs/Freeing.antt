@@ -8,7 +8,7 @@ use Rattle.shelf_cache.specs.Rows.{no_shelf, shelf_at, spot_at, on_page, There, 
 use Rattle.shelf_cache.specs.Sound.{Sound, Sized, Placed, Bare, Lowered, stands_on}
 use Rattle.shelf_cache.specs.Places.{Settled, left_of, eased}
 use Rattle.shelf_cache.specs.First.{count_none, count_some}
-use Rattle.shelf_cache.proofs.Moves.{was, was_bound, was_live, was_one, moved-is, each_left, kept_at, count_left}
+use Rattle.shelf_cache.proofs.Moves.{was, was_bound, was_live, was_one, moved_is, each_left, kept_at, count_left}
 use Rattle.shelf_cache.proofs.Rows.{by_row}
 
 -- how far a shelf with one image less is used
@@ -26,144 +26,144 @@ module _ (width height count : ℕ) (shelves : List Shelf) (standing : List ℕ)
   k₁ : k < 256
   k₁ = omega (arith, S.few)
 
-  each-shelf : (P : ℕ → Shelf → Type 0) → P at (eased (shelf_at shelves at)) → ((k : ℕ) → (k ≡ at → ⊥) → P k (shelf_at shelves k)) → (k : ℕ) → P k (shelf_at shelves' k)
-  each-shelf P = by_row P shelves at (eased (shelf_at shelves at)) no_shelf al
+  each_shelf : (P : ℕ → Shelf → Type 0) → P at (eased (shelf_at shelves at)) → ((k : ℕ) → (k ≡ at → ⊥) → P k (shelf_at shelves k)) → (k : ℕ) → P k (shelf_at shelves' k)
+  each_shelf P = by_row P shelves at (eased (shelf_at shelves at)) no_shelf al
 
   -- what held of each image where it was holds of each that is left
   each_live : (P : ℕ → Spot → Type 0) → ((j : ℕ) → j < live - 1 → was k j < live → P j (spot_at spots (was k j))) → (j : ℕ) → j < live - 1 → P j (spot_at (left_of spots k) j)
   each_live P moved j l = each_left spots k n k₁ (λ j a. j < live - 1 → P j a) (λ j _ l. moved j l (was_live k j live kl S.few l)) j (omega (arith, S.few)) l
 
   -- one image less on its shelf, and as many as before on another
-  count-here : count_below (stands_on (left_of spots k) at) (live - 1) + 1 ≡ (shelf_at shelves at).images
-  count-here =
+  count_here : count_below (stands_on (left_of spots k) at) (live - 1) + 1 ≡ (shelf_at shelves at).images
+  count_here =
       let a = count_left spots k n k₁ live S.few kl (λ (b : Spot). eqb b.shelf at) in
       let b : ◌≡◌ {A = ℕ} (cond (eqb (spot_at spots k).shelf at) 1 0) 1 = ap (λ x. cond x 1 0) (eq-eqb _ _ on-at) in
       omega (arith, a, b, S.counted at)
 
-  count-other : (s : ℕ) → (s ≡ at → ⊥) → count_below (stands_on (left_of spots k) s) (live - 1) ≡ (shelf_at shelves s).images
-  count-other s ne =
+  count_other : (s : ℕ) → (s ≡ at → ⊥) → count_below (stands_on (left_of spots k) s) (live - 1) ≡ (shelf_at shelves s).images
+  count_other s ne =
       let a = count_left spots k n k₁ live S.few kl (λ (b : Spot). eqb b.shelf s) in
       let b : ◌≡◌ {A = ℕ} (cond (eqb (spot_at spots k).shelf s) 1 0) 0 = ap (λ x. cond x 1 0) (ne_eqb _ _ (λ e. ne (sym e ∙ on-at))) in
       omega (arith, a, b, S.counted s)
 
-  pub some-here : 0 < (shelf_at shelves at).images
-  some-here = omega (arith, count-here)
+  pub some_here : 0 < (shelf_at shelves at).images
+  some_here = omega (arith, count_here)
 
   -- it was the only image of its shelf exactly when the shelf is bare now
-  bare-one : Bare (left_of spots k) (live - 1) at → (shelf_at shelves at).images ≡ 1
-  bare-one bare = let z = count_none (stands_on (left_of spots k) at) (live - 1) (λ j l. ne_eqb _ _ (bare j l)) in omega (arith, count-here)
+  bare_one : Bare (left_of spots k) (live - 1) at → (shelf_at shelves at).images ≡ 1
+  bare_one bare = let z = count_none (stands_on (left_of spots k) at) (live - 1) (λ j l. ne_eqb _ _ (bare j l)) in omega (arith, count_here)
 
-  one-bare : (shelf_at shelves at).images ≡ 1 → Bare (left_of spots k) (live - 1) at
-  one-bare e j l q = let z = count_some (stands_on (left_of spots k) at) (live - 1) j l (eq-eqb _ _ q) in omega (arith, count-here)
+  one_bare : (shelf_at shelves at).images ≡ 1 → Bare (left_of spots k) (live - 1) at
+  one_bare e j l q = let z = count_some (stands_on (left_of spots k) at) (live - 1) j l (eq-eqb _ _ q) in omega (arith, count_here)
 
   -- a shelf that the image was not on has no image if it has none now
-  bare-before : (s : ℕ) → (s ≡ at → ⊥) → Bare (left_of spots k) (live - 1) s → Bare spots live s
-  bare-before s ne bare j l e = ⊎_elim
+  bare_before : (s : ℕ) → (s ≡ at → ⊥) → Bare (left_of spots k) (live - 1) s → Bare spots live s
+  bare_before s ne bare j l e = ⊎_elim
       (λ q. let P : ℕ → Type 0 = λ k. (spot_at spots k).shelf ≡ s in ne (sym (subst P q e) ∙ on-at))
       (λ q.
       let m = kept_at spots k n k₁ live S.few kl j l q in
       bare m.0 m.1.0 (ap (λ (a : Spot). a.shelf) m.1.1 ∙ e))
       (cases_eq j k)
 
-  height-same : (s : ℕ) → (shelf_at shelves' s).height ≡ (shelf_at shelves s).height
-  height-same = each-shelf (λ s z. z.height ≡ (shelf_at shelves s).height) refl (λ _ _. refl)
+  height_same : (s : ℕ) → (shelf_at shelves' s).height ≡ (shelf_at shelves s).height
+  height_same = each_shelf (λ s z. z.height ≡ (shelf_at shelves s).height) refl (λ _ _. refl)
 
-  top-same : (s : ℕ) → (shelf_at shelves' s).top ≡ (shelf_at shelves s).top
-  top-same = each-shelf (λ s z. z.top ≡ (shelf_at shelves s).top) refl (λ _ _. refl)
+  top_same : (s : ℕ) → (shelf_at shelves' s).top ≡ (shelf_at shelves s).top
+  top_same = each_shelf (λ s z. z.top ≡ (shelf_at shelves s).top) refl (λ _ _. refl)
 
-  used-other : (s : ℕ) → (s ≡ at → ⊥) → (shelf_at shelves' s).used ≡ (shelf_at shelves s).used
-  used-other s ne = ap (λ (z : Shelf). z.used) (get_or-set_other shelves at s _ no_shelf ne)
+  used_other : (s : ℕ) → (s ≡ at → ⊥) → (shelf_at shelves' s).used ≡ (shelf_at shelves s).used
+  used_other s ne = ap (λ (z : Shelf). z.used) (get_or-set_other shelves at s _ no_shelf ne)
 
-  used-here : ((shelf_at shelves at).images ≡ 1 → ⊥) → (shelf_at shelves' at).used ≡ (shelf_at shelves at).used
-  used-here ne = ap (λ (z : Shelf). z.used) (get_or-set_same shelves at _ no_shelf al) ∙ eased_more (shelf_at shelves at) ne
+  used_here : ((shelf_at shelves at).images ≡ 1 → ⊥) → (shelf_at shelves' at).used ≡ (shelf_at shelves at).used
+  used_here ne = ap (λ (z : Shelf). z.used) (get_or-set_same shelves at _ no_shelf al) ∙ eased_more (shelf_at shelves at) ne
 
   -- a shelf that an image is still on is used as before
-  used-still : (j : ℕ) → j < live - 1 → (shelf_at shelves' (spot_at (left_of spots k) j).shelf).used ≡ (shelf_at shelves (spot_at (left_of spots k) j).shelf).used
-  used-still j l = ⊎_elim
-      (λ e. let P : ℕ → Type 0 = λ s. (shelf_at shelves' s).used ≡ (shelf_at shelves s).used in subst P (sym e) (used-here (λ q. one-bare q j l e)))
-      (used-other (spot_at (left_of spots k) j).shelf)
+  used_still : (j : ℕ) → j < live - 1 → (shelf_at shelves' (spot_at (left_of spots k) j).shelf).used ≡ (shelf_at shelves (spot_at (left_of spots k) j).shelf).used
+  used_still j l = ⊎_elim
+      (λ e. let P : ℕ → Type 0 = λ s. (shelf_at shelves' s).used ≡ (shelf_at shelves s).used in subst P (sym e) (used_here (λ q. one_bare q j l e)))
+      (used_other (spot_at (left_of spots k) j).shelf)
       (cases_eq (spot_at (left_of spots k) j).shelf at)
 
-  used-less : (s : ℕ) → (shelf_at shelves' s).used ≤ (shelf_at shelves s).used
-  used-less = each-shelf (λ s z. z.used ≤ (shelf_at shelves s).used)
+  used_less : (s : ℕ) → (shelf_at shelves' s).used ≤ (shelf_at shelves s).used
+  used_less = each_shelf (λ s z. z.used ≤ (shelf_at shelves s).used)
       (⊎_elim (λ e. omega (arith, eased_one (shelf_at shelves at) e)) (λ ne. omega (arith, eased_more (shelf_at shelves at) ne)) (cases_eq (shelf_at shelves at).images 1))
       (λ s _. omega arith)
 
-  sized-left : Sized (left_of spots k) (live - 1)
-  sized-left = each_live (λ j a. (0 < a.w) × (0 < a.h)) (λ j _ l. S.sized (was k j) l)
+  sized_left : Sized (left_of spots k) (live - 1)
+  sized_left = each_live (λ j a. (0 < a.w) × (0 < a.h)) (λ j _ l. S.sized (was k j) l)
 
-  placed-left : Placed shelves' (left_of spots k) (live - 1)
-  placed-left j l =
+  placed_left : Placed shelves' (left_of spots k) (live - 1)
+  placed_left j l =
       let p = each_live (λ j a. (a.x + a.w ≤ (shelf_at shelves a.shelf).used) × (a.y ≡ (shelf_at shelves a.shelf).top)) (λ j _ m. S.placed (was k j) m) j l in
-      (omega (arith, p.0, used-still j l), p.1 ∙ sym (top-same (spot_at (left_of spots k) j).shelf))
+      (omega (arith, p.0, used_still j l), p.1 ∙ sym (top_same (spot_at (left_of spots k) j).shelf))
 
   -- where no shelf stood nothing is used
-  unused-below : (s : ℕ) → on_page standing (s / 16) ≤ s % 16 → (shelf_at shelves' s).used ≡ 0
-  unused-below s l =
+  unused_below : (s : ℕ) → on_page standing (s / 16) ≤ s % 16 → (shelf_at shelves' s).used ≡ 0
+  unused_below s l =
       let T : ℕ → Type 0 = There standing in
       let z = S.reset s (λ j m e. let t : There standing s = subst T e (S.stood j m) in omega arith) in
-      omega (arith, used-less s)
+      omega (arith, used_less s)
 
   module _ (pl : at / 16 < length standing) (r : ℕ) (L : Lowered shelves' (at / 16) (on_page standing (at / 16)) r) where
     abbrev standing' : List ℕ
     standing' = set standing (at / 16) r
 
-    page-here : on_page standing' (at / 16) ≡ r
-    page-here = get_or-set_same standing (at / 16) r 0 pl
+    page_here : on_page standing' (at / 16) ≡ r
+    page_here = get_or-set_same standing (at / 16) r 0 pl
 
-    page-other : (p : ℕ) → (p ≡ at / 16 → ⊥) → on_page standing' p ≡ on_page standing p
-    page-other p ne = get_or-set_other standing (at / 16) p r 0 ne
+    page_other : (p : ℕ) → (p ≡ at / 16 → ⊥) → on_page standing' p ≡ on_page standing p
+    page_other p ne = get_or-set_other standing (at / 16) p r 0 ne
 
-    there-before : (s : ℕ) → There standing' s → There standing s
-    there-before s t = ⊎_elim
-        (λ e. let a = ap (on_page standing') e ∙ page-here in let b = ap (on_page standing) e in omega (arith, L.fewer))
-        (λ ne. let a = page-other (s / 16) ne in omega arith)
+    there_before : (s : ℕ) → There standing' s → There standing s
+    there_before s t = ⊎_elim
+        (λ e. let a = ap (on_page standing') e ∙ page_here in let b = ap (on_page standing) e in omega (arith, L.fewer))
+        (λ ne. let a = page_other (s / 16) ne in omega arith)
         (cases_eq (s / 16) (at / 16))
 
     -- what vanished of the page is not used
-    unused-gone : (s : ℕ) → s / 16 ≡ at / 16 → r ≤ s % 16 → (shelf_at shelves' s).used ≡ 0
-    unused-gone s e l =
+    unused_gone : (s : ℕ) → s / 16 ≡ at / 16 → r ≤ s % 16 → (shelf_at shelves' s).used ≡ 0
+    unused_gone s e l =
         let b = ap (on_page standing) e in
         ⊎_elim
         (λ m. let q : s ≡ 16 * (at / 16) + s % 16 = omega arith in ap (λ t. (shelf_at shelves' t).used) q ∙ L.gone (s % 16) l m)
-        (λ m. unused-below s (omega arith))
+        (λ m. unused_below s (omega arith))
         (cases_lt (s % 16) (on_page standing (at / 16)))
 
-    pub left-sound : Sound width height count shelves' standing' (left_of spots k) (live - 1)
-    left-sound = record {
+    pub left_sound : Sound width height count shelves' standing' (left_of spots k) (live - 1)
+    left_sound = record {
       wide = S.wide;
       high = S.high;
       pages = S.pages;
       paged = by_row (λ p n. 0 < n → p < count) standing (at / 16) r 0 pl (λ l. S.paged (at / 16) (omega (arith, L.fewer))) (λ p _. S.paged p);
       sixteen = by_row (λ p n. n ≤ 16) standing (at / 16) r 0 pl (omega (arith, L.fewer, S.sixteen (at / 16))) (λ p _. S.sixteen p);
-      inside = λ s l. omega (arith, S.inside s (there-before s l), height-same s, top-same s);
-      inner = λ s. omega (arith, S.inner s, used-less s);
-      stacked = λ s t o. omega (arith, S.stacked s t (record { upper = o.upper; page = o.page; there = there-before t o.there }), height-same s, top-same s, top-same t);
+      inside = λ s l. omega (arith, S.inside s (there_before s l), height_same s, top_same s);
+      inner = λ s. omega (arith, S.inner s, used_less s);
+      stacked = λ s t o. omega (arith, S.stacked s t (record { upper = o.upper; page = o.page; there = there_before t o.there }), height_same s, top_same s, top_same t);
       few = omega (arith, S.few);
-      sized = sized-left;
-      placed = placed-left;
+      sized = sized_left;
+      placed = placed_left;
       stood = λ j l.
           let s : ℕ = (spot_at (left_of spots k) j).shelf in
           let t : There standing (spot_at (left_of spots k) j).shelf = each_live (λ j a. There standing a.shelf) (λ j _ m. S.stood (was k j) m) j l in
           ⊎_elim
           (λ e.
-          let a = ap (on_page standing') e ∙ page-here in
-          ⊎_elim (λ m. omega arith) (λ m. let z = unused-gone s e m in absurd (omega (arith, (placed-left j l).0, (sized-left j l).0))) (cases_lt (s % 16) r))
-          (λ ne. let a = page-other (s / 16) ne in omega arith)
+          let a = ap (on_page standing') e ∙ page_here in
+          ⊎_elim (λ m. omega arith) (λ m. let z = unused_gone s e m in absurd (omega (arith, (placed_left j l).0, (sized_left j l).0))) (cases_lt (s % 16) r))
+          (λ ne. let a = page_other (s / 16) ne in omega arith)
           (cases_eq (s / 16) (at / 16));
       upright = λ j l.
           let u = each_live (λ j a. a.h ≤ (shelf_at shelves a.shelf).height) (λ j _ m. S.upright (was k j) m) j l in
-          omega (arith, u, height-same (spot_at (left_of spots k) j).shelf);
+          omega (arith, u, height_same (spot_at (left_of spots k) j).shelf);
       beside = λ i j r.
           each_live (λ i a. (j : ℕ) → j < live - 1 → (i ≡ j → ⊥) → a.shelf ≡ (spot_at (left_of spots k) j).shelf → a.x ≤ (spot_at (left_of spots k) j).x → a.x + a.w ≤ (spot_at (left_of spots k) j).x)
           (λ i il wi. each_live (λ j b. (i ≡ j → ⊥) → (spot_at spots (was k i)).shelf ≡ b.shelf → (spot_at spots (was k i)).x ≤ b.x → (spot_at spots (was k i)).x + (spot_at spots (was k i)).w ≤ b.x)
           (λ j jl wj ne e m. S.beside (was k i) (was k j) (record { two = λ q. ne (was_one k i j k₁ (omega (arith, S.few)) (omega (arith, S.few)) q); one_live = wi; other_live = wj; same = e; left = m })))
           i r.one_live j r.other_live r.two r.same r.left;
-      reset = each-shelf (λ s z. Bare (left_of spots k) (live - 1) s → z.used ≡ 0) (λ bare. eased_one (shelf_at shelves at) (bare-one bare)) (λ s ne bare. S.reset s (bare-before s ne bare));
-      counted = each-shelf (λ s z. z.images ≡ count_below (stands_on (left_of spots k) s) (live - 1)) (omega (arith, count-here)) (λ s ne. sym (count-other s ne));
+      reset = each_shelf (λ s z. Bare (left_of spots k) (live - 1) s → z.used ≡ 0) (λ bare. eased_one (shelf_at shelves at) (bare_one bare)) (λ s ne bare. S.reset s (bare_before s ne bare));
+      counted = each_shelf (λ s z. z.images ≡ count_below (stands_on (left_of spots k) s) (live - 1)) (omega (arith, count_here)) (λ s ne. sym (count_other s ne));
       lowest = λ s idle. ⊎_elim
           (λ e.
-          let a = ap (on_page standing') e ∙ page-here in
+          let a = ap (on_page standing') e ∙ page_here in
           ⊎_elim
           (λ m.
           let u = L.last (omega arith) in
@@ -174,30 +174,30 @@ module _ (width height count : ℕ) (shelves : List Shelf) (standing : List ℕ)
           (λ m. omega arith)
           (cases_lt (s % 16) r))
           (λ ne.
-          let a = page-other (s / 16) ne in
-          let old = S.lowest s (λ t l e. sym (used-other t (λ q. ne (e ∙ ap (λ k. k / 16) q))) ∙ idle t l e) in
+          let a = page_other (s / 16) ne in
+          let old = S.lowest s (λ t l e. sym (used_other t (λ q. ne (e ∙ ap (λ k. k / 16) q))) ∙ idle t l e) in
           omega arith)
           (cases_eq (s / 16) (at / 16));
       small = each_left spots k n k₁ (λ j a. a.id < 256) (λ j l. S.small (was k j) (was_bound k j k₁ l));
       single = λ i j r. was_one k i j k₁ r.one r.other (S.single (was k i) (was k j) (record {
         one = was_bound k i k₁ r.one;
         other = was_bound k j k₁ r.other;
-        same = sym (ap (λ (a : Spot). a.id) (moved-is spots k n k₁ i r.one)) ∙ (r.same ∙ ap (λ (a : Spot). a.id) (moved-is spots k n k₁ j r.other));
+        same = sym (ap (λ (a : Spot). a.id) (moved_is spots k n k₁ i r.one)) ∙ (r.same ∙ ap (λ (a : Spot). a.id) (moved_is spots k n k₁ j r.other));
       }));
     }
 
     pub settled : Settled shelves standing at shelves' standing' (left_of spots k) (live - 1)
     settled = record {
-      tops = top-same;
-      heights = height-same;
-      others_used = used-other;
-      still_used = λ no_bare. used-here (λ e. no_bare (one-bare e));
-      left_again = left-sound.reset at;
-      other_pages = page-other;
-      none_new = there-before;
+      tops = top_same;
+      heights = height_same;
+      others_used = used_other;
+      still_used = λ no_bare. used_here (λ e. no_bare (one_bare e));
+      left_again = left_sound.reset at;
+      other_pages = page_other;
+      none_new = there_before;
       vanished = λ s stood gone t l e. ⊎_elim
-          (λ q. let a = ap (on_page standing') q ∙ page-here in unused-gone t (sym e ∙ q) (omega arith))
-          (λ ne. let a = page-other (s / 16) ne in absurd (omega arith))
+          (λ q. let a = ap (on_page standing') q ∙ page_here in unused_gone t (sym e ∙ q) (omega arith))
+          (λ ne. let a = page_other (s / 16) ne in absurd (omega arith))
           (cases_eq (s / 16) (at / 16));
-      none_lowest = left-sound.lowest;
+      none_lowest = left_sound.lowest;
     }

@@ -8,8 +8,8 @@ use Rattle.shelf_cache.specs.declared.shelf.Spot.{Spot}
 use Rattle.shelf_cache.specs.Rows.{no_spot, spot_at}
 use Rattle.shelf_cache.specs.Places.{live_of, image_of, left_of, cache_of}
 use Rattle.shelf_cache.specs.Sound.{Sound}
-use Rattle.shelf_cache.proofs.Moves.{was, was_live, was_other, moved-is, kept_at}
-use Rattle.shelf_cache.specs.Names.{Unnamed, live-when, dead-when, same_live}
+use Rattle.shelf_cache.proofs.Moves.{was, was_live, was_other, moved_is, kept_at}
+use Rattle.shelf_cache.specs.Names.{Unnamed, live_when, dead_when, same_live}
 
 module _ (width height count : ℕ) (shelves shelves' : List Shelf) (standing standing' : List ℕ) (spots : List Spot) (live : ℕ) (S : Sound width height count shelves standing spots live) where
   -- the image a comes, with the first id that is free
@@ -21,13 +21,13 @@ module _ (width height count : ℕ) (shelves shelves' : List Shelf) (standing st
     here = get_or-set_same spots live a no_spot l
 
     pub live_here : live_of (set spots live a) (live + 1) a.id ≡ Some (image_of a)
-    live_here = live-when (set spots live a) (live + 1) S'.few S'.single a.id live (omega arith) (ap (λ (b : Spot). b.id) here) ∙ ap (λ (b : Spot). Some (image_of b)) here
+    live_here = live_when (set spots live a) (live + 1) S'.few S'.single a.id live (omega arith) (ap (λ (b : Spot). b.id) here) ∙ ap (λ (b : Spot). Some (image_of b)) here
 
     pub added_is : (cache_of width height count shelves standing spots live).fits a.w a.h ≡ true
         → Added (cache_of width height count shelves standing spots live) a.w a.h a.id (cache_of width height count shelves' standing' (set spots live a) (live + 1))
     added_is f = record {
       fitted = f;
-      fresh = dead-when spots live a.id unnamed;
+      fresh = dead_when spots live a.id unnamed;
       image = image_of a;
       wide = refl;
       high = refl;
@@ -45,22 +45,22 @@ module _ (width height count : ℕ) (shelves shelves' : List Shelf) (standing st
     k₁ : k < 256
     k₁ = omega (arith, S.few)
 
-    other-than : (j : ℕ) → j < live → (spot_at spots j).id ≡ i → j ≡ k
-    other-than j l q = S.single j k (record { one = omega (arith, S.few); other = k₁; same = q ∙ sym e })
+    other_than : (j : ℕ) → j < live → (spot_at spots j).id ≡ i → j ≡ k
+    other_than j l q = S.single j k (record { one = omega (arith, S.few); other = k₁; same = q ∙ sym e })
 
     -- where an image that is left was
-    was-at : (j : ℕ) → j < live - 1 → spot_at (left_of spots k) j ≡ spot_at spots (was k j)
-    was-at j l = moved-is spots k n k₁ j (omega (arith, S.few))
+    was_at : (j : ℕ) → j < live - 1 → spot_at (left_of spots k) j ≡ spot_at spots (was k j)
+    was_at j l = moved_is spots k n k₁ j (omega (arith, S.few))
 
-    pub removed-is : Removed (cache_of width height count shelves standing spots live) i (cache_of width height count shelves' standing' (left_of spots k) (live - 1))
-    removed-is = record {
+    pub removed_is : Removed (cache_of width height count shelves standing spots live) i (cache_of width height count shelves' standing' (left_of spots k) (live - 1))
+    removed_is = record {
       image = image_of (spot_at spots k);
-      was = live-when spots live S.few S.single i k kl e;
-      gone = dead-when (left_of spots k) (live - 1) i (λ j l q.
+      was = live_when spots live S.few S.single i k kl e;
+      gone = dead_when (left_of spots k) (live - 1) i (λ j l q.
           let I : Spot → Type 0 = λ b. b.id ≡ i in
-          was_other k j live kl S.few l (other-than (was k j) (was_live k j live kl S.few l) (subst I (was-at j l) q)));
+          was_other k j live kl S.few l (other_than (was k j) (was_live k j live kl S.few l) (subst I (was_at j l) q)));
       others = λ m ne. same_live spots (left_of spots k) live (live - 1) S.few S.single S'.few S'.single m
           (λ j jl u. kept_at spots k n k₁ live S.few kl j jl (λ q. ne (sym u ∙ (ap (λ x. (spot_at spots x).id) q ∙ e))))
-          (λ j l _. (was k j, (was_live k j live kl S.few l, was-at j l)));
+          (λ j l _. (was k j, (was_live k j live kl S.few l, was_at j l)));
       sizes = record { width = refl; height = refl; count = refl; widest = refl; highest = refl };
     }

@@ -65,8 +65,8 @@ module _ (spots : List Spot) (k : ℕ) (n : length spots ≡ 256) (kl : k < 256)
   whole : length (closed_up spots k) ≡ 256
   whole = length-append (removed spots k) (drop (length (removed spots k)) spots) ∙ (ap (λ m. length (removed spots k) + m) (length-drop (length (removed spots k)) spots) ∙ omega (arith, short))
 
-  pub moved-is : (j : ℕ) → j < 256 → spot_at (left_of spots k) j ≡ spot_at spots (was k j)
-  moved-is j l =
+  pub moved_is : (j : ℕ) → j < 256 → spot_at (left_of spots k) j ≡ spot_at spots (was k j)
+  moved_is j l =
       ⊎_elim
       (λ e.
       ap (λ i. spot_at (left_of spots k) i) e
@@ -84,23 +84,23 @@ module _ (spots : List Spot) (k : ℕ) (n : length spots ≡ 256) (kl : k < 256)
 
   -- what holds of each where it was, at its new place, holds of all
   pub each_left : (P : ℕ → Spot → Type 0) → ((j : ℕ) → j < 256 → P j (spot_at spots (was k j))) → (j : ℕ) → j < 256 → P j (spot_at (left_of spots k) j)
-  each_left P moved j l = let Q : Spot → Type 0 = λ a. P j a in subst Q (sym (moved-is j l)) (moved j l)
+  each_left P moved j l = let Q : Spot → Type 0 = λ a. P j a in subst Q (sym (moved_is j l)) (moved j l)
 
   module _ (live : ℕ) (few : live ≤ 256) (kn : k < live) where
     -- where each other image is now
     pub kept_at : (j : ℕ) → j < live → (j ≡ k → ⊥) → (i : ℕ) × ((i < live - 1) × (spot_at (left_of spots k) i ≡ spot_at spots j))
     kept_at j l ne =
         ⊎_elim
-        (λ m. (j, (omega arith, moved-is j (omega arith) ∙ ap (λ i. spot_at spots i) (was_low k j m))))
+        (λ m. (j, (omega arith, moved_is j (omega arith) ∙ ap (λ i. spot_at spots i) (was_low k j m))))
         (λ m.
         let p : k < j = ⊎_elim (λ q. q) (λ q. absurd (ne (omega arith))) (cases_lt k j) in
         let e : was k (j - 1) ≡ j = was_high k (j - 1) (omega arith) (omega arith) ∙ omega arith in
-        (j - 1, (omega arith, moved-is (j - 1) (omega arith) ∙ ap (λ i. spot_at spots i) e)))
+        (j - 1, (omega arith, moved_is (j - 1) (omega arith) ∙ ap (λ i. spot_at spots i) e)))
         (cases_lt j k)
 
     pub count_left : (p : Spot → Bool) → count_below (λ j. p (spot_at (left_of spots k) j)) (live - 1) + cond (p (spot_at spots k)) 1 0 ≡ count_below (λ j. p (spot_at spots j)) live
     count_left p =
-        let a = count_same (λ j. p (spot_at (left_of spots k) j)) (λ j. p (spot_at spots (was k j))) (live - 1) (λ j l. ap p (moved-is j (omega arith))) in
+        let a = count_same (λ j. p (spot_at (left_of spots k) j)) (λ j. p (spot_at spots (was k j))) (live - 1) (λ j l. ap p (moved_is j (omega arith))) in
         let b = count_moved (λ j. p (spot_at spots j)) k (live - 1) (omega arith) (omega arith) in
         let e : suc (live - 1) ≡ live = omega arith in
         ap (λ m. m + cond (p (spot_at spots k)) 1 0) a ∙ (b ∙ ap (count_below (λ j. p (spot_at spots j))) e)

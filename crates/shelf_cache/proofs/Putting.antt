@@ -39,95 +39,95 @@ module _ (width height count : ℕ) (shelves : List Shelf) (standing : List ℕ)
   abbrev stood : ℕ
   stood = on_page standing (p.at / 16)
 
-  page-here : on_page standing' (p.at / 16) ≡ reach stood (p.at % 16)
-  page-here = get_or-set_same standing (p.at / 16) (reach stood (p.at % 16)) 0 pl
+  page_here : on_page standing' (p.at / 16) ≡ reach stood (p.at % 16)
+  page_here = get_or-set_same standing (p.at / 16) (reach stood (p.at % 16)) 0 pl
 
-  page-other : (q : ℕ) → (q ≡ p.at / 16 → ⊥) → on_page standing' q ≡ on_page standing q
-  page-other q ne = get_or-set_other standing (p.at / 16) q (reach stood (p.at % 16)) 0 ne
+  page_other : (q : ℕ) → (q ≡ p.at / 16 → ⊥) → on_page standing' q ≡ on_page standing q
+  page_other q ne = get_or-set_other standing (p.at / 16) q (reach stood (p.at % 16)) 0 ne
 
   -- a shelf stands now where one stood, and at the place
-  there-kept : (s : ℕ) → There standing s → There standing' s
-  there-kept s t = ⊎_elim
+  there_kept : (s : ℕ) → There standing s → There standing' s
+  there_kept s t = ⊎_elim
       (λ e.
-      let a = ap (on_page standing') e ∙ page-here in
+      let a = ap (on_page standing') e ∙ page_here in
       let b = ap (on_page standing) e in
       ⊎_elim (λ r. omega arith) (λ r. omega arith) (reach_is stood (p.at % 16) R.next))
-      (λ ne. let a = page-other (s / 16) ne in omega arith)
+      (λ ne. let a = page_other (s / 16) ne in omega arith)
       (cases_eq (s / 16) (p.at / 16))
 
-  there-new : There standing' p.at
-  there-new = let a = page-here in ⊎_elim (λ r. omega arith) (λ r. omega arith) (reach_is stood (p.at % 16) R.next)
+  there_new : There standing' p.at
+  there_new = let a = page_here in ⊎_elim (λ r. omega arith) (λ r. omega arith) (reach_is stood (p.at % 16) R.next)
 
-  there-old : (s : ℕ) → (s ≡ p.at → ⊥) → There standing' s → There standing s
-  there-old s other t = ⊎_elim
+  there_old : (s : ℕ) → (s ≡ p.at → ⊥) → There standing' s → There standing s
+  there_old s other t = ⊎_elim
       (λ e.
-      let a = ap (on_page standing') e ∙ page-here in
+      let a = ap (on_page standing') e ∙ page_here in
       let b = ap (on_page standing) e in
       ⊎_elim
       (λ r. omega arith)
       (λ r. ⊎_elim (λ l. omega arith) (λ l. absurd (other (omega arith))) (cases_lt (s % 16) (p.at % 16)))
       (reach_is stood (p.at % 16) R.next))
-      (λ ne. let a = page-other (s / 16) ne in omega arith)
+      (λ ne. let a = page_other (s / 16) ne in omega arith)
       (cases_eq (s / 16) (p.at / 16))
 
-  each-shelf : (P : ℕ → Shelf → Type 0) → P p.at (filled p.shelf w) → ((k : ℕ) → (k ≡ p.at → ⊥) → P k (shelf_at shelves k)) → (k : ℕ) → P k (shelf_at shelves' k)
-  each-shelf P = by_row P shelves p.at (filled p.shelf w) no_shelf al
+  each_shelf : (P : ℕ → Shelf → Type 0) → P p.at (filled p.shelf w) → ((k : ℕ) → (k ≡ p.at → ⊥) → P k (shelf_at shelves k)) → (k : ℕ) → P k (shelf_at shelves' k)
+  each_shelf P = by_row P shelves p.at (filled p.shelf w) no_shelf al
 
-  each-spot : (P : ℕ → Spot → Type 0) → P live image → ((k : ℕ) → (k ≡ live → ⊥) → P k (spot_at spots k)) → (k : ℕ) → P k (spot_at spots' k)
-  each-spot P = by_row P spots live image no_spot il
+  each_spot : (P : ℕ → Spot → Type 0) → P live image → ((k : ℕ) → (k ≡ live → ⊥) → P k (spot_at spots k)) → (k : ℕ) → P k (spot_at spots' k)
+  each_spot P = by_row P spots live image no_spot il
 
   -- the image, and each that was live
   each_live : (P : ℕ → Spot → Type 0) → P live image → ((k : ℕ) → k < live → P k (spot_at spots k)) → (k : ℕ) → k < live + 1 → P k (spot_at spots' k)
-  each_live P new old = each-spot (λ k a. k < live + 1 → P k a) (λ _. new) (λ k ne l. old k (⊎_elim (λ m. m) (λ m. absurd (ne (omega arith))) (cases_lt k live)))
+  each_live P new old = each_spot (λ k a. k < live + 1 → P k a) (λ _. new) (λ k ne l. old k (⊎_elim (λ m. m) (λ m. absurd (ne (omega arith))) (cases_lt k live)))
 
   same_id : (k : ℕ) → (spot_at spots' k).id ≡ (spot_at spots k).id
-  same_id = each-spot (λ k a. a.id ≡ (spot_at spots k).id) refl (λ k _. refl)
+  same_id = each_spot (λ k a. a.id ≡ (spot_at spots k).id) refl (λ k _. refl)
 
-  used-now : (shelf_at shelves' p.at).used ≡ 0 → ⊥
-  used-now e =
+  used_now : (shelf_at shelves' p.at).used ≡ 0 → ⊥
+  used_now e =
       let Q : Shelf → Type 0 = λ z. z.used ≡ 0 in
       let z : p.shelf.used + w ≡ 0 = here_row Q shelves p.at (filled p.shelf w) no_shelf al e in
       omega arith
 
   -- nothing is used now from a place below the image's, so nothing was
-  idle-before : (s : ℕ) → ((t : ℕ) → s ≤ t → s / 16 ≡ t / 16 → t ≡ p.at → ⊥) → Idle shelves' s → Idle shelves s
-  idle-before s other idle t l e = back_row (λ k z. z.used ≡ 0) shelves p.at (filled p.shelf w) no_shelf t (other t l e) (idle t l e)
+  idle_before : (s : ℕ) → ((t : ℕ) → s ≤ t → s / 16 ≡ t / 16 → t ≡ p.at → ⊥) → Idle shelves' s → Idle shelves s
+  idle_before s other idle t l e = back_row (λ k z. z.used ≡ 0) shelves p.at (filled p.shelf w) no_shelf t (other t l e) (idle t l e)
 
   -- one image more on its shelf, and none on another
-  count-put : (s : ℕ) → count_below (stands_on spots' s) (live + 1) ≡ count_below (stands_on spots s) live + cond (eqb p.at s) 1 0
-  count-put s =
+  count_put : (s : ℕ) → count_below (stands_on spots' s) (live + 1) ≡ count_below (stands_on spots s) live + cond (eqb p.at s) 1 0
+  count_put s =
       let a = count_same (stands_on spots' s) (stands_on spots s) live (λ k l. ap (λ (b : Spot). eqb b.shelf s) (get_or-set_other spots live k image no_spot (λ e. omega arith))) in
       let b : ◌≡◌ {A = ℕ} (cond (stands_on spots' s live) 1 0) (cond (eqb p.at s) 1 0) = ap (λ (b : Spot). cond (eqb b.shelf s) 1 0) (get_or-set_same spots live image no_spot il) in
       count_more (stands_on spots' s) live ∙ (ap (λ n. n + cond (stands_on spots' s live) 1 0) a ∙ ap (λ n. count_below (stands_on spots s) live + n) b)
 
-  pub put-sound : Sound width height count shelves' standing' spots' (live + 1)
-  put-sound = record {
+  pub put_sound : Sound width height count shelves' standing' spots' (live + 1)
+  put_sound = record {
     wide = S.wide;
     high = S.high;
     pages = S.pages;
     paged = by_row (λ q n. 0 < n → q < count) standing (p.at / 16) (reach stood (p.at % 16)) 0 pl (λ _. omega (arith, R.paged)) (λ q _. S.paged q);
     sixteen = by_row (λ q n. n ≤ 16) standing (p.at / 16) (reach stood (p.at % 16)) 0 pl (⊎_elim (λ r. omega (arith, S.sixteen (p.at / 16))) (λ r. omega arith) (reach_is stood (p.at % 16) R.next)) (λ q _. S.sixteen q);
-    inside = each-shelf (λ s z. There standing' s → z.top + z.height ≤ height) (λ _. R.inside) (λ s ne t. S.inside s (there-old s ne t));
-    inner = each-shelf (λ s z. z.used ≤ width) R.room (λ s _. S.inner s);
+    inside = each_shelf (λ s z. There standing' s → z.top + z.height ≤ height) (λ _. R.inside) (λ s ne t. S.inside s (there_old s ne t));
+    inner = each_shelf (λ s z. z.used ≤ width) R.room (λ s _. S.inner s);
     stacked = λ s t o.
-        each-shelf (λ t z. (s : ℕ) → s < t → s / 16 ≡ t / 16 → There standing' t → (shelf_at shelves' s).top + (shelf_at shelves' s).height ≤ z.top)
-        (λ s l e _. each-shelf (λ s y. s < p.at → s / 16 ≡ p.at / 16 → y.top + y.height ≤ p.shelf.top) (λ l _. absurd (omega arith)) (λ s _ l e. R.above_ends s l e) s l e)
-        (λ t ne s l e k. each-shelf (λ s y. s < t → s / 16 ≡ t / 16 → y.top + y.height ≤ (shelf_at shelves t).top) (λ l e. R.below_begins t l e (there-old t ne k)) (λ s _ l e. S.stacked s t (record { upper = l; page = e; there = there-old t ne k })) s l e)
+        each_shelf (λ t z. (s : ℕ) → s < t → s / 16 ≡ t / 16 → There standing' t → (shelf_at shelves' s).top + (shelf_at shelves' s).height ≤ z.top)
+        (λ s l e _. each_shelf (λ s y. s < p.at → s / 16 ≡ p.at / 16 → y.top + y.height ≤ p.shelf.top) (λ l _. absurd (omega arith)) (λ s _ l e. R.above_ends s l e) s l e)
+        (λ t ne s l e k. each_shelf (λ s y. s < t → s / 16 ≡ t / 16 → y.top + y.height ≤ (shelf_at shelves t).top) (λ l e. R.below_begins t l e (there_old t ne k)) (λ s _ l e. S.stacked s t (record { upper = l; page = e; there = there_old t ne k })) s l e)
         t s o.upper o.page o.there;
     few = omega arith;
     sized = each_live (λ j a. (0 < a.w) × (0 < a.h)) (w₀, h₀) S.sized;
     placed =
         each_live (λ j a. (a.x + a.w ≤ (shelf_at shelves' a.shelf).used) × (a.y ≡ (shelf_at shelves' a.shelf).top))
-        (each-shelf (λ s z. s ≡ p.at → (p.shelf.used + w ≤ z.used) × (p.shelf.top ≡ z.top)) (λ _. (omega arith, refl)) (λ s ne e. absurd (ne e)) p.at refl)
-        (λ j l. each-shelf (λ s z. s ≡ (spot_at spots j).shelf → ((spot_at spots j).x + (spot_at spots j).w ≤ z.used) × ((spot_at spots j).y ≡ z.top))
+        (each_shelf (λ s z. s ≡ p.at → (p.shelf.used + w ≤ z.used) × (p.shelf.top ≡ z.top)) (λ _. (omega arith, refl)) (λ s ne e. absurd (ne e)) p.at refl)
+        (λ j l. each_shelf (λ s z. s ≡ (spot_at spots j).shelf → ((spot_at spots j).x + (spot_at spots j).w ≤ z.used) × ((spot_at spots j).y ≡ z.top))
         (λ e. (omega (arith, R.left j l (sym e)), R.level j l (sym e)))
         (λ s _ e. let P : ℕ → Type 0 = λ t. ((spot_at spots j).x + (spot_at spots j).w ≤ (shelf_at shelves t).used) × ((spot_at spots j).y ≡ (shelf_at shelves t).top) in subst P (sym e) (S.placed j l))
         (spot_at spots j).shelf refl);
-    stood = each_live (λ j a. There standing' a.shelf) there-new (λ j l. there-kept (spot_at spots j).shelf (S.stood j l));
+    stood = each_live (λ j a. There standing' a.shelf) there_new (λ j l. there_kept (spot_at spots j).shelf (S.stood j l));
     upright =
         each_live (λ j a. a.h ≤ (shelf_at shelves' a.shelf).height)
-        (each-shelf (λ s z. s ≡ p.at → h ≤ z.height) (λ _. R.tall) (λ s ne e. absurd (ne e)) p.at refl)
-        (λ j l. each-shelf (λ s z. s ≡ (spot_at spots j).shelf → (spot_at spots j).h ≤ z.height)
+        (each_shelf (λ s z. s ≡ p.at → h ≤ z.height) (λ _. R.tall) (λ s ne e. absurd (ne e)) p.at refl)
+        (λ j l. each_shelf (λ s z. s ≡ (spot_at spots j).shelf → (spot_at spots j).h ≤ z.height)
         (λ e. R.lower j l (sym e))
         (λ s _ e. let P : ℕ → Type 0 = λ t. (spot_at spots j).h ≤ (shelf_at shelves t).height in subst P (sym e) (S.upright j l))
         (spot_at spots j).shelf refl);
@@ -141,28 +141,28 @@ module _ (width height count : ℕ) (shelves : List Shelf) (standing : List ℕ)
         (λ k l ne e m. S.beside j k (record { two = ne; one_live = lj; other_live = l; same = e; left = m })))
         j r.one_live k r.other_live r.two r.same r.left;
     reset =
-        each-shelf (λ s z. ((j : ℕ) → j < live + 1 → (spot_at spots' j).shelf ≡ s → ⊥) → z.used ≡ 0)
+        each_shelf (λ s z. ((j : ℕ) → j < live + 1 → (spot_at spots' j).shelf ≡ s → ⊥) → z.used ≡ 0)
         (λ none. absurd (none live (omega arith) (ap (λ (b : Spot). b.shelf) (get_or-set_same spots live image no_spot il))))
         (λ s _ none. S.reset s (λ j l e. none j (omega arith) (ap (λ (b : Spot). b.shelf) (get_or-set_other spots live j image no_spot (λ q. omega arith)) ∙ e)));
     counted =
-        each-shelf (λ s z. z.images ≡ count_below (stands_on spots' s) (live + 1))
-        (ap (λ n. n + 1) R.counted ∙ (ap (λ b. count_below (stands_on spots p.at) live + cond b 1 0) (sym (eq-eqb p.at p.at refl)) ∙ sym (count-put p.at)))
+        each_shelf (λ s z. z.images ≡ count_below (stands_on spots' s) (live + 1))
+        (ap (λ n. n + 1) R.counted ∙ (ap (λ b. count_below (stands_on spots p.at) live + cond b 1 0) (sym (eq-eqb p.at p.at refl)) ∙ sym (count_put p.at)))
         (λ s ne.
         let z : ◌≡◌ {A = ℕ} (cond (eqb p.at s) 1 0) 0 = ap (λ b. cond b 1 0) (ne_eqb p.at s (λ e. ne (sym e))) in
-        omega (arith, S.counted s, count-put s));
+        omega (arith, S.counted s, count_put s));
     lowest = λ s idle. ⊎_elim
         (λ e.
-        let a = ap (on_page standing') e ∙ page-here in
+        let a = ap (on_page standing') e ∙ page_here in
         let b = ap (on_page standing) e in
         ⊎_elim
         (λ l.
-        let old = S.lowest s (idle-before s (λ t m f q. omega arith) idle) in
+        let old = S.lowest s (idle_before s (λ t m f q. omega arith) idle) in
         ⊎_elim (λ r. omega arith) (λ r. omega arith) (reach_is stood (p.at % 16) R.next))
-        (λ l. absurd (used-now (idle p.at l e)))
+        (λ l. absurd (used_now (idle p.at l e)))
         (cases_lt p.at s))
         (λ ne.
-        let a = page-other (s / 16) ne in
-        let old = S.lowest s (idle-before s (λ t m f q. ne (f ∙ ap (λ k. k / 16) q)) idle) in
+        let a = page_other (s / 16) ne in
+        let old = S.lowest s (idle_before s (λ t m f q. ne (f ∙ ap (λ k. k / 16) q)) idle) in
         omega arith)
         (cases_eq (s / 16) (p.at / 16));
     small = λ j l. omega (arith, S.small j l, same_id j);

@@ -8,7 +8,7 @@ use Rattle.shelf_cache.specs.Rows.{shelf_at, spot_at, on_page, stands, There, co
 use Rattle.shelf_cache.specs.Sound.{Sound, stands_on}
 use Rattle.shelf_cache.specs.Places.{takes, takes_at, opens_at, end_above, old_place, new_place, Fit}
 use Rattle.shelf_cache.specs.First.{count_none}
-use Rattle.shelf_cache.specs.Rooms.{opens-is}
+use Rattle.shelf_cache.specs.Rooms.{opens_is}
 
 -- a place at which an image can be put, so that all stays sound: its shelf stands or is the next of its page
 pub record Ready (width height count : ℕ) (shelves : List Shelf) (standing : List ℕ) (spots : List Spot) (live w h : ℕ) (p : Place) : Type 0 where
@@ -28,8 +28,8 @@ module _ (width height count : ℕ) (shelves : List Shelf) (standing : List ℕ)
   on_shelf : (P : Shelf → Type 0) (j s : ℕ) → (spot_at spots j).shelf ≡ s → P (shelf_at shelves (spot_at spots j).shelf) → P (shelf_at shelves s)
   on_shelf P j s e h = let Q : ℕ → Type 0 = λ t. P (shelf_at shelves t) in subst Q e h
 
-  ready-old : (s : ℕ) → takes_at width w h shelves standing s ≡ true → Ready width height count shelves standing spots live w h (old_place shelves s)
-  ready-old s t =
+  ready_old : (s : ℕ) → takes_at width w h shelves standing s ≡ true → Ready width height count shelves standing spots live w h (old_place shelves s)
+  ready_old s t =
       let a = and_parts (stands standing s) (takes width w h (shelf_at shelves s)) t in
       let b = and_parts (leb h (shelf_at shelves s).height) (leb ((shelf_at shelves s).used + w) width) a.1 in
       let there : There standing s = ltb-true _ _ a.0 in
@@ -47,9 +47,9 @@ module _ (width height count : ℕ) (shelves : List Shelf) (standing : List ℕ)
         counted = S.counted s;
       }
 
-  ready-new : (s : ℕ) → opens_at count height h shelves standing s ≡ true → Ready width height count shelves standing spots live w h (new_place shelves h s)
-  ready-new s t =
-      let o = opens-is count height h shelves standing s t in
+  ready_new : (s : ℕ) → opens_at count height h shelves standing s ≡ true → Ready width height count shelves standing spots live w h (new_place shelves h s)
+  ready_new s t =
+      let o = opens_is count height h shelves standing s t in
       let next = o.next in
       -- no image is on a shelf that does not stand yet
       let none : (j : ℕ) → j < live → (spot_at spots j).shelf ≡ s → ⊥ = λ j l e. let T : ℕ → Type 0 = There standing in let q : There standing s = subst T e (S.stood j l) in omega arith in
@@ -77,4 +77,4 @@ module _ (width height count : ℕ) (shelves : List Shelf) (standing : List ℕ)
   pub ready : (p : Place) → Fit width height count shelves standing live w h p → Ready width height count shelves standing spots live w h p
   ready p f =
       let P : Place → Type 0 = Ready width height count shelves standing spots live w h in
-      ⊎_elim (λ o. subst P (sym o.is) (ready-old p.at o.takes_it)) (λ o. subst P (sym o.is) (ready-new p.at o.opens)) f.chosen
+      ⊎_elim (λ o. subst P (sym o.is) (ready_old p.at o.takes_it)) (λ o. subst P (sym o.is) (ready_new p.at o.opens)) f.chosen

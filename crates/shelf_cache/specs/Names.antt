@@ -19,26 +19,26 @@ module _ (spots : List Spot) (live : ℕ) where
   by_place i R None f yes-at none-at = none-at (λ j l e. both_ways (has_at spots i j) (f j l) (eq-eqb _ _ e))
   by_place i R (Some j) f yes-at none-at = yes-at j f.0 (eqb-true _ _ f.1)
 
-  pub dead-when : (i : ℕ) → Unnamed spots live i → live_of spots live i ≡ None
-  dead-when i none = ap (option_map (λ j. image_of (spot_at spots j))) (first_none (has_at spots i) live (λ j l. ne_eqb _ _ (none j l)))
+  pub dead_when : (i : ℕ) → Unnamed spots live i → live_of spots live i ≡ None
+  dead_when i none = ap (option_map (λ j. image_of (spot_at spots j))) (first_none (has_at spots i) live (λ j l. ne_eqb _ _ (none j l)))
 
-  is-dead : (i : ℕ) (o : Option ℕ) → FirstBelow (has_at spots i) live o → option_map (λ j. image_of (spot_at spots j)) o ≡ None → Unnamed spots live i
-  is-dead i None f e = λ j l q. both_ways (has_at spots i j) (f j l) (eq-eqb _ _ q)
-  is-dead i (Some j) f e = let z : ◌≡◌ {A = ℕ} 0 1 = cc in absurd (omega arith)
+  is_dead : (i : ℕ) (o : Option ℕ) → FirstBelow (has_at spots i) live o → option_map (λ j. image_of (spot_at spots j)) o ≡ None → Unnamed spots live i
+  is_dead i None f e = λ j l q. both_ways (has_at spots i j) (f j l) (eq-eqb _ _ q)
+  is_dead i (Some j) f e = let z : ◌≡◌ {A = ℕ} 0 1 = cc in absurd (omega arith)
 
-  pub not-live-is : (i : ℕ) → live_of spots live i ≡ None → Unnamed spots live i
-  not-live-is i e = is-dead i (first_below (has_at spots i) live) (first_spec (has_at spots i) live) e
+  pub not_live_is : (i : ℕ) → live_of spots live i ≡ None → Unnamed spots live i
+  not_live_is i e = is_dead i (first_below (has_at spots i) live) (first_spec (has_at spots i) live) e
 
   is_at : (i : ℕ) (a : Image) (o : Option ℕ) → FirstBelow (has_at spots i) live o → option_map (λ j. image_of (spot_at spots j)) o ≡ Some a → (j : ℕ) × ((j < live) × (((spot_at spots j).id ≡ i) × (a ≡ image_of (spot_at spots j))))
   is_at i a None f e = let z : ◌≡◌ {A = ℕ} 0 1 = cc in absurd (omega arith)
   is_at i a (Some j) f e = (j, (f.0, (eqb-true _ _ f.1, cc)))
 
-  pub live-is : (i : ℕ) (a : Image) → live_of spots live i ≡ Some a → (j : ℕ) × ((j < live) × (((spot_at spots j).id ≡ i) × (a ≡ image_of (spot_at spots j))))
-  live-is i a e = is_at i a (first_below (has_at spots i) live) (first_spec (has_at spots i) live) e
+  pub live_is : (i : ℕ) (a : Image) → live_of spots live i ≡ Some a → (j : ℕ) × ((j < live) × (((spot_at spots j).id ≡ i) × (a ≡ image_of (spot_at spots j))))
+  live_is i a e = is_at i a (first_below (has_at spots i) live) (first_spec (has_at spots i) live) e
 
   module _ (F : Few live) (S : Single spots) where
-    pub live-when : (i j : ℕ) → j < live → (spot_at spots j).id ≡ i → live_of spots live i ≡ Some (image_of (spot_at spots j))
-    live-when i j l e =
+    pub live_when : (i j : ℕ) → j < live → (spot_at spots j).id ≡ i → live_of spots live i ≡ Some (image_of (spot_at spots j))
+    live_when i j l e =
         let before : (k : ℕ) → k < j → has_at spots i k ≡ false =
         λ k m. ne_eqb _ _ (λ q. let z = S k j (record { one = omega arith; other = omega arith; same = q ∙ sym e }) in omega arith) in
         ap (option_map (λ j. image_of (spot_at spots j))) (first_some (has_at spots i) live j l (eq-eqb _ _ e) before)
@@ -53,10 +53,10 @@ same_live spots spots' live live' F S F' S' i there back =
     (λ j l e.
     let q = there j l e in
     let I : Spot → Type 0 = λ a. a.id ≡ i in
-    live-when spots' live' F' S' i q.0 q.1.0 (subst I (sym q.1.1) e) ∙ (ap (λ (a : Spot). Some (image_of a)) q.1.1 ∙ sym (live-when spots live F S i j l e)))
+    live_when spots' live' F' S' i q.0 q.1.0 (subst I (sym q.1.1) e) ∙ (ap (λ (a : Spot). Some (image_of a)) q.1.1 ∙ sym (live_when spots live F S i j l e)))
     (λ none.
-    dead-when spots' live' i (λ k l e.
+    dead_when spots' live' i (λ k l e.
     let q = back k l e in
     let I : Spot → Type 0 = λ a. a.id ≡ i in
     none q.0 q.1.0 (subst I q.1.1 e))
-    ∙ sym (dead-when spots live i none))
+    ∙ sym (dead_when spots live i none))

@@ -21,8 +21,8 @@ pub record Opens (count height h : ℕ) (shelves : List Shelf) (standing : List 
   pub left : end_above shelves s + h ≤ height
 
 module _ (count height h : ℕ) (shelves : List Shelf) (standing : List ℕ) where
-  pub opens-is : (s : ℕ) → opens_at count height h shelves standing s ≡ true → Opens count height h shelves standing s
-  opens-is s t =
+  pub opens_is : (s : ℕ) → opens_at count height h shelves standing s ≡ true → Opens count height h shelves standing s
+  opens_is s t =
       let a = and_parts (nat_lt s (16 * count)) _ t in
       let b = and_parts (s % 16 == on_page standing (s / 16)) _ a.1 in
       record { paged = ltb-true _ _ a.0; next = eqb-true _ _ b.0; left = leb-true _ _ b.1 }
@@ -32,8 +32,8 @@ module _ (count height h : ℕ) (shelves : List Shelf) (standing : List ℕ) whe
       let P : ℕ → Type 0 = λ n. n + h ≤ height in
       record { there = omega (arith, o.paged); has = sym o.next; under = omega arith; left = subst P (end_same shelves s (s % 16) refl) o.left }
 
-  room-opens : (q n : ℕ) → RoomOn count height h shelves standing q n → opens_at count height h shelves standing (16 * q + n) ≡ true
-  room-opens q n r =
+  room_opens : (q n : ℕ) → RoomOn count height h shelves standing q n → opens_at count height h shelves standing (16 * q + n) ≡ true
+  room_opens q n r =
       let u = r.under in
       let d : (16 * q + n) / 16 ≡ q = omega arith in
       let m : (16 * q + n) % 16 ≡ n = omega arith in
@@ -43,9 +43,9 @@ module _ (count height h : ℕ) (shelves : List Shelf) (standing : List ℕ) whe
       (and_from _ _ (eq-eqb _ _ (m ∙ (sym r.has ∙ ap (on_page standing) (sym d))))
       (le-leb _ _ (subst P (sym e) r.left)))
 
-  pub first-page : (s : ℕ) → opens_at count height h shelves standing s ≡ true → ((t : ℕ) → t < s → opens_at count height h shelves standing t ≡ false) → FirstPage count height h shelves standing s
-  first-page s t none = record {
-    room = room_of s (opens-is s t);
+  pub first_page : (s : ℕ) → opens_at count height h shelves standing s ≡ true → ((t : ℕ) → t < s → opens_at count height h shelves standing t ≡ false) → FirstPage count height h shelves standing s
+  first_page s t none = record {
+    room = room_of s (opens_is s t);
     below = end_same shelves s (s % 16) refl;
-    none_earlier = λ q n l r. both_ways (opens_at count height h shelves standing (16 * q + n)) (none (16 * q + n) (omega (arith, r.under))) (room-opens q n r);
+    none_earlier = λ q n l r. both_ways (opens_at count height h shelves standing (16 * q + n)) (none (16 * q + n) (omega (arith, r.under))) (room_opens q n r);
   }

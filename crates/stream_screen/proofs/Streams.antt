@@ -87,8 +87,8 @@ stream_long [] = lit≤ tt
 stream_long (c ∷ cs) = omega (arith, length-append (record_of c) (stream_of cs), record_long c, stream_long cs)
 
 module _ (bs : List ℕ) (d : Call) (whole : Whole bs) (fits : FitsCall d) where
-  pub calls-more : calls_in (bs ++ record_of d) ≡ calls_in bs ++ d ∷ []
-  calls-more =
+  pub calls_more : calls_in (bs ++ record_of d) ≡ calls_in bs ++ d ∷ []
+  calls_more =
       let cs = calls_in bs in
       let n = length (bs ++ record_of d) in
       let few : length cs ≤ length bs = omega (arith, stream_long cs, ap length whole) in
@@ -98,12 +98,12 @@ module _ (bs : List ℕ) (d : Call) (whole : Whole bs) (fits : FitsCall d) where
       ∙ ap (λ l. read (length bs) l ++ call_of (kind_of d) (payload_of d)) (sym whole)
       ∙ ap (λ l. calls_in bs ++ l) (call_back d fits)
 
-  pub whole-more : Whole (bs ++ record_of d)
-  whole-more =
+  pub whole_more : Whole (bs ++ record_of d)
+  whole_more =
       ap (λ l. l ++ record_of d) whole
       ∙ ap (λ l. stream_of (calls_in bs) ++ l) (sym (append-nil (record_of d)))
       ∙ sym (stream_append (calls_in bs) (d ∷ []))
-      ∙ ap stream_of (sym calls-more)
+      ∙ ap stream_of (sym calls_more)
 
 pub record_short : Short
 record_short c = omega (arith, (small c).payload)
@@ -121,8 +121,8 @@ reads_back cs fit = read_all cs (length (stream_of cs)) (stream_long cs) fit
 
 -- a record more in a buffer
 module _ (o p : List ℕ) (i j : ℕ) (d : Call) (whole : Whole (take i o)) (fits : FitsCall d) (wrote : WroteIn (record_of d) o i p j) where
-  pub calls-added : calls_in (take j p) ≡ calls_in (take i o) ++ d ∷ []
-  calls-added = ap calls_in wrote.adds ∙ calls-more (take i o) d whole fits
+  pub calls_added : calls_in (take j p) ≡ calls_in (take i o) ++ d ∷ []
+  calls_added = ap calls_in wrote.adds ∙ calls_more (take i o) d whole fits
 
-  pub whole-added : Whole (take j p)
-  whole-added = subst Whole (sym wrote.adds) (whole-more (take i o) d whole fits)
+  pub whole_added : Whole (take j p)
+  whole_added = subst Whole (sym wrote.adds) (whole_more (take i o) d whole fits)

@@ -2,8 +2,8 @@
 use Rattle.std.proofs.Common.{◌≡◌, map}
 use Rattle.pages.specs.Pages.{page_of}
 use Rattle.atlas_pages.specs.AllPages.{add_commands}
-use Rattle.atlas_pages.proofs.Changing.{changed-to}
+use Rattle.atlas_pages.proofs.Changing.{changed_to}
 use Rattle.atlas_pages.proofs.sets.add_to.Given as goal
 
 abbrev pub invariant-loop-recorder : goal.invariant-loop-recorder
-invariant-loop-recorder l = map page_of l.recorders ≡ changed-to (add_commands l.page l.commands) l.initial.recorders l.recorder-index
+invariant-loop-recorder l = map page_of l.recorders ≡ changed_to (add_commands l.page l.commands) l.initial.recorders l.recorder-index

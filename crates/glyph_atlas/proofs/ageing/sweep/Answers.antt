@@ -5,7 +5,7 @@ use Rattle.std.proofs.lemmas.List.{get_or_default}
 use Rattle.lists.specs.Bounds.{held, appended}
 use Rattle.glyph_atlas.specs.declared.entry.GlyphCacheEntry.{GlyphCacheEntry}
 use Rattle.glyph_atlas.specs.Places.{aged}
-use Rattle.glyph_atlas.proofs.Sweeping.{zeros, gone-more, gone-stays, gone_all, still_there, sized_at}
+use Rattle.glyph_atlas.proofs.Sweeping.{zeros, gone_more, gone_stays, gone_all, still_there, sized_at}
 use Rattle.glyph_atlas.proofs.ageing.sweep.Goals as goal
 use Rattle.glyph_atlas.proofs.ageing.sweep.Goals.{then-is_old, else-is_old}
 
@@ -40,13 +40,13 @@ loop-i-preserved g c =
       | then-is_old w ↦
           let o : aged t a e ≡ true = sym c.is_old.ensures ∙ w.if-is_old.true in (
             rw (w.entries-is, w.to-is) (FiltersInPlace-more_no keeps l (ap not o) at),
-            rw (w.clears-is, w.cache-is) (gone-more t a xs k₀ c₀ i k d gone e c.loop-i-test.true was o c.requires.room
+            rw (w.clears-is, w.cache-is) (gone_more t a xs k₀ c₀ i k d gone e c.loop-i-test.true was o c.requires.room
                 w.free.result (g.C.ImageCache.meaning w.free.new.self) w.free.ensures.frees (held w.push.new.self) (w.push.ensures.items ∙ ap (λ y. appended 256 k y) w.pad.ensures)),
           )
       | else-is_old w ↦
           let o : aged t a e ≡ false = sym c.is_old.ensures ∙ w.if-is_old.false in (
             rw (w.entries-is, w.to-is) (FiltersInPlace-more_set keeps l (ap not o) at),
-            rw (w.clears-is, w.cache-is) (gone-stays t a xs k₀ c₀ i k d gone e c.loop-i-test.true was o),
+            rw (w.clears-is, w.cache-is) (gone_stays t a xs k₀ c₀ i k d gone e c.loop-i-test.true was o),
           )
     ]
 

@@ -1,6 +1,6 @@
 -- Each turn puts one command more at the end.
 use Rattle.std.proofs.Common.{sym, append-nil, arith}
-use Rattle.pages.proofs.Sending.{one_place, pushed_more, pushed-all}
+use Rattle.pages.proofs.Sending.{one_place, pushed_more, pushed_all}
 use Rattle.pages.proofs.recording.push_all.Goals as goal
 
 pub loop-command-init : goal.loop-command-init
@@ -13,4 +13,4 @@ pub loop-command-preserved : goal.loop-command-preserved
 loop-command-preserved c = pushed_more _ _ _ _ _ _ c.loop-command-test.true c.requires c.loop-command.invariant c.push.ensures.items
 
 pub returns : goal.returns
-returns c = pushed-all _ _ _ _ c.loop-command-test.false c.loop-command.invariant
+returns c = pushed_all _ _ _ _ c.loop-command-test.false c.loop-command.invariant

@@ -6,7 +6,7 @@ use Rattle.floats.specs.Units.{units_of, floor_of, ceil_of}
 use Rattle.floats.proofs.Negated.{units_neg, finite_neg}
 use Rattle.raster.specs.Metric.{from_edges}
 use Rattle.raster.proofs.Finite.{sides}
-use Rattle.raster.proofs.Cut.{edges-cut}
+use Rattle.raster.proofs.Cut.{edges_cut}
 use Rattle.raster.proofs.metrics.from_ordered.Goals as goal
 
 pub floor_whole-requires : goal.floor_whole-requires
@@ -32,4 +32,4 @@ returns c =
     let bottom = u ∙ ap (λ (z : ℤ). saturate_to_bits 31 (ceil_of z)) (units_neg binary64 b.y0) in
     c.place.ensures
     ∙ (λ i. from_edges (l i) (r i +ℤ pos 1) (top i) (bottom i))
-    ∙ edges-cut (floor_of (units_of b.x0)) (ceil_of (units_of b.x1)) (floor_of (neg_ℤ (units_of b.y1))) (ceil_of (neg_ℤ (units_of b.y0)))
+    ∙ edges_cut (floor_of (units_of b.x0)) (ceil_of (units_of b.x1)) (floor_of (neg_ℤ (units_of b.y1))) (ceil_of (neg_ℤ (units_of b.y0)))

@@ -1,7 +1,7 @@
 -- There are four pages, and one with commands more keeps its number.
 use Rattle.std.proofs.Common.{sym}
 use Rattle.atlas_pages.specs.AllPages.{add_commands}
-use Rattle.atlas_pages.proofs.Changing.{four, still-numbered}
+use Rattle.atlas_pages.proofs.Changing.{four, still_numbered}
 use Rattle.atlas_pages.proofs.Adding.{same_number}
 use Rattle.atlas_pages.proofs.set.AtlasPages.record.Goals as goal
 
@@ -10,4 +10,4 @@ add_to-requires c = (four _ c.args.self.now.numbered, sym c.if-is_crowded.ensure
 
 pub invariant_of-self : goal.invariant_of-self
 invariant_of-self c =
-    (still-numbered (add_commands c.args.page c.args.commands) (same_number c.args.page c.args.commands) _ _ c.args.self.now.numbered c.add_to.ensures, tt)
+    (still_numbered (add_commands c.args.page c.args.commands) (same_number c.args.page c.args.commands) _ _ c.args.self.now.numbered c.add_to.ensures, tt)

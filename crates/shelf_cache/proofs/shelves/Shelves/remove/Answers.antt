@@ -1,11 +1,11 @@
 -- With the image gone and the empty lowest shelves with it, all is sound, and one image less is live.
 use Rattle.std.proofs.Common.{rules}
-use Rattle.shelf_cache.proofs.Leaving.{counted-here, left}
+use Rattle.shelf_cache.proofs.Leaving.{counted_here, left}
 use Rattle.shelf_cache.specs.Whole.{parts}
 use Rattle.shelf_cache.proofs.shelves.Shelves.remove.Goals as goal
 
 pub without_image-shelf-requires : goal.without_image-shelf-requires
-without_image-shelf-requires c = counted-here c.args.self.now c.args.id c.args.k (search rules) (search rules) c.requires.live c.requires.named
+without_image-shelf-requires c = counted_here c.args.self.now c.args.id c.args.k (search rules) (search rules) c.requires.live c.requires.named
 
 pub invariant_of-self : goal.invariant_of-self
 invariant_of-self c =

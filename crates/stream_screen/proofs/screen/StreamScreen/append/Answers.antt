@@ -1,18 +1,18 @@
 -- The bytes are whole records again, and read back as one call more.
 use Rattle.std.proofs.Common.{refl, arith}
-use Rattle.stream_screen.proofs.Streams.{record_short, calls-added, whole-added}
+use Rattle.stream_screen.proofs.Streams.{record_short, calls_added, whole_added}
 use Rattle.stream_screen.proofs.screen.StreamScreen.append.Goals as goal
 
 pub invariant_of-self : goal.invariant_of-self
 invariant_of-self c =
     let w = c.put_call.ensures.wrote in
-    (omega (arith, w.more, w.long, record_short c.args.call), (whole-added _ _ _ _ c.args.call c.args.self.now.whole c.put_call.ensures.fits w, tt))
+    (omega (arith, w.more, w.long, record_short c.args.call), (whole_added _ _ _ _ c.args.call c.args.self.now.whole c.put_call.ensures.fits w, tt))
 
 pub returns : goal.returns
 returns c =
     let w = c.put_call.ensures.wrote in
     record {
-      calls = calls-added _ _ _ _ c.args.call c.args.self.now.whole c.put_call.ensures.fits w;
+      calls = calls_added _ _ _ _ c.args.call c.args.self.now.whole c.put_call.ensures.fits w;
       used = omega (arith, w.more, record_short c.args.call);
       long = w.long;
       states = refl;

@@ -121,6 +121,13 @@ def swap(text, names):
     return TOKEN.sub(lambda m: names.get(m[0], m[0]), text)
 
 
+def aliases(text, own):
+    """The modules of other crates that a file names whole, with the crate of each."""
+    for path, alias in re.findall(r"^use (Rattle\.[^\s{;]+?)(?: as ([a-z_]+))?;?$", text, re.M):
+        if path.split(".")[1] in own:
+            yield alias or path.split(".")[-1], own[path.split(".")[1]]
+
+
 def swap_quoted(text, names):
     return re.sub(r"`[^`\n]*`", lambda m: swap(m[0], names), text)
 
@@ -161,6 +168,9 @@ def main():
     for path in files(".antt", CRATES):
         text = open(path, encoding="utf-8").read()
         new = swap_antt(text, scope(path, text, own, fields))
+        for alias, names in aliases(text, own):
+            for name, new_name in names.items():
+                new = re.sub(r"\b%s\.%s(?![\w'-])" % (alias, re.escape(name)), f"{alias}.{new_name}", new)
         if new != text:
             open(path, "w", encoding="utf-8").write(new)
     for path in files(".rt", CRATES):

@@ -8,10 +8,10 @@ use Rattle.raster.specs.Steps.{nearly_straight, nearly_unit}
 use Rattle.raster.specs.Supported.{straight, unit_sized}
 
 pub straight_is : (x : Float) → T (fits binary64 x) → T (float_is_finite x) → nearly_straight x ≡ straight (units_of x)
-straight_is x h p = sizes.size-at-most x h p _ _ sizes.nearly_zero _ refl
+straight_is x h p = sizes.size_at_most x h p _ _ sizes.nearly_zero _ refl
 
 pub unit_is : (x : Float) → T (fits binary64 x) → T (float_is_finite x) → nearly_unit x ≡ unit_sized (units_of x)
 unit_is x h p =
-    let least = sizes.size-at-least x h p _ _ sizes.under_one _ refl in
-    let most = sizes.size-at-most x h p _ _ sizes.over_one _ refl in
+    let least = sizes.size_at_least x h p _ _ sizes.under_one _ refl in
+    let most = sizes.size_at_most x h p _ _ sizes.over_one _ refl in
     λ i. least i && most i

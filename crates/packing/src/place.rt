@@ -11,7 +11,7 @@ use std::alloc::{AllocError, Global};
 
 // A place for a picture of that size, and what stands there now.
 pub fn place<C: ImageCache>(cache: &mut C, w: u16, h: u16) -> Result<Image, CacheFault>
-    ensures places { Placed (meaning cache.old) w h result (meaning cache.new) }
+    ensures places { Placed (C.meaning cache.old) w h result (C.meaning cache.new) }
     ensures keeps { KeepsRefused result cache.old cache.new }
 {
     let id = cache.allocate(w, h)?;
@@ -35,7 +35,7 @@ pub fn place_all<C: ImageCache>(
     cache: &mut C,
     extents: &[Extent],
 ) -> Result<Vec<Result<Image, CacheFault>>, AllocError>
-    ensures places { IfOk result (λ v. PlacedAll (meaning cache.old) extents.now v.items (meaning cache.new)) }
+    ensures places { IfOk result (λ v. PlacedAll (C.meaning cache.old) extents.now v.items (C.meaning cache.new)) }
     ensures keeps { KeepsRefused result cache.old cache.new }
 {
     let mut answers = Vec::with_capacity(heap, extents.len())?;

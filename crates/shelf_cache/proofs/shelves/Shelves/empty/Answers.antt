@@ -6,7 +6,7 @@ use Rattle.shelf_cache.specs.Whole.{parts}
 use Rattle.shelf_cache.proofs.shelves.Shelves.empty.Goals as goal
 
 pub invariant_of-result : goal.invariant_of-result
-invariant_of-result c = parts _ _ _ _ _ _ _ (new_sound c.args.width c.args.height c.args.count c.free_spots-spots.result c.requires.wide c.requires.high c.requires.pages c.free_spots-spots.ensures)
+invariant_of-result c = (let all = parts _ _ _ _ _ _ _ (new_sound c.args.width c.args.height c.args.count c.free_spots-spots.result c.requires.wide c.requires.high c.requires.pages c.free_spots-spots.ensures) in (all.0, all.1))
 
 pub returns : goal.returns
 returns c = record { wide = refl; high = refl; pages = refl; none_live = λ i. dead_when c.free_spots-spots.result 0 i (λ j l _. omega arith); no_shelves = none_stands }

@@ -9,8 +9,8 @@ with_image-requires c = holds_more c.args.self.now c.args.w c.args.h c.args.plac
 
 pub invariant_of-self : goal.invariant_of-self
 invariant_of-self c =
-    parts _ _ _ _ _ _ _ (come c.args.self.now c.args.w c.args.h c.args.place c.requires.fit (search rules) (search rules) (search rules)
-    c.with_shelf.result c.with_shelf.ensures c.with_image.result c.with_image.ensures c.spot_on.result c.spot_on.ensures).sound
+    (let all = parts _ _ _ _ _ _ _ (come c.args.self.now c.args.w c.args.h c.args.place c.requires.fit (search rules) (search rules) (search rules)
+    c.with_shelf.result c.with_shelf.ensures c.with_image.result c.with_image.ensures c.spot_on.result c.spot_on.ensures).sound in (all.0, all.1))
 
 pub returns : goal.returns
 returns c =

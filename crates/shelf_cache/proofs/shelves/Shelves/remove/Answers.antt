@@ -9,8 +9,8 @@ without_image-shelf-requires c = counted_here c.args.self.now c.args.id c.args.k
 
 pub invariant_of-self : goal.invariant_of-self
 invariant_of-self c =
-    parts _ _ _ _ _ _ _ (left c.args.self.now c.args.id c.args.k (search rules) (search rules) c.requires.live c.requires.named (search rules)
-    c.retire.new.spots c.retire.ensures c.without_image-shelf.result c.without_image-shelf.ensures c.left_standing.result c.left_standing.ensures).sound
+    (let all = parts _ _ _ _ _ _ _ (left c.args.self.now c.args.id c.args.k (search rules) (search rules) c.requires.live c.requires.named (search rules)
+    c.retire.new.spots c.retire.ensures c.without_image-shelf.result c.without_image-shelf.ensures c.left_standing.result c.left_standing.ensures).sound in (all.0, all.1))
 
 pub returns : goal.returns
 returns c =

@@ -21,7 +21,7 @@ pub fn records_hold() -> bool
         unreachable()
     };
     match screen.restore_state(state) {
-        Ok(()) => screen.bytes() == &[0, 0, 12, 0, 0, 0, 10, 0, 0, 0, 13, 0],
+        Ok(()) => screen.bytes() == [0, 0, 12, 0, 0, 0, 10, 0, 0, 0, 13, 0].as_slice(),
         Err(_) => unreachable(),
     }
 }

@@ -8,7 +8,7 @@ use Rattle.std.proofs.lemmas.Bool.Decides.{Decides-eqb}
 
 pub returns : goal.returns
 returns c =
-    let wrote = three_records (ap (λ m. m.calls) c.new_screen.ensures.means) c.in-Ok.ensures.saves.1.calls c.in-Ok-pop_layer.ensures.sends.1.calls c.in-Ok-restore_state.ensures.restores.1.calls in
+    let wrote = three_records (ap (λ m. m.calls) c.new-screen.ensures.means) c.in-Ok.ensures.saves.1.calls c.in-Ok-pop_layer.ensures.sends.1.calls c.in-Ok-restore_state.ensures.restores.1.calls in
     record {
       cases = worked;
       reads = reads_back;

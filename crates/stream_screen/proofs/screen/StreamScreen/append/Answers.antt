@@ -6,7 +6,7 @@ use Rattle.stream_screen.proofs.screen.StreamScreen.append.Goals as goal
 pub invariant_of-self : goal.invariant_of-self
 invariant_of-self c =
     let w = c.put_call.ensures.wrote in
-    (omega (arith, w.more, w.long, record_short c.args.call), (whole_added _ _ _ _ c.args.call c.args.self.now.whole c.put_call.ensures.fits w, tt))
+    record { room = omega (arith, w.more, w.long, record_short c.args.call); whole = whole_added _ _ _ _ c.args.call c.args.self.now.whole c.put_call.ensures.fits w }
 
 pub returns : goal.returns
 returns c =

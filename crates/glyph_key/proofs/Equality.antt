@@ -1,5 +1,5 @@
 -- Keys whose numbers agree are equal, and the other way round. Assumes nothing.
-use Rattle.std.proofs.Common.{◌≡◌, ℕ, Bool, true, false, cond, ◌&&◌, ◌==◌, Decides, T, eqb, List, [], ◌∷◌, get_or, ℤ, pos, negsuc, nat_abs, sym, refl, ap, ◌∙◌, subst, arith, eqb→eq}
+use Rattle.std.proofs.Common.{◌≡◌, ℕ, Bool, true, false, cond, ◌&&◌, ◌==◌, Decides, eqb, List, [], ◌∷◌, get_or, ℤ, pos, negsuc, nat_abs, sym, refl, ap, ◌∙◌, subst, arith, eqb→eq}
 use mathlib.Core.Bool.{beq}
 use lib.Dec.{eqb_refl}
 use Rattle.std.specs.Cmp.{both_ways, signed_Decides}

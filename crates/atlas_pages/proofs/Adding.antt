@@ -1,7 +1,6 @@
 -- A page to which commands may be added: it keeps its number, and has places where no page is crowded. Assumes nothing.
-use Rattle.std.proofs.Common.{◌≡◌, ℕ, zero, suc, ◌+◌, ◌-◌, ◌<◌, ◌≤◌, Bool, true, false, cond, not, eqb, List, [], ◌∷◌, ◌++◌, map, length, get_or, take, drop, filter, sym, refl, ap, ◌∙◌, ⊎_elim, arith, rules}
-use Rattle.std.proofs.lemmas.List.{places, length-map, get_or-map, get_or-append_right, get_or-drop, length-take-le}
-use Rattle.std.proofs.lemmas.Bool.{cases_Bool}
+use Rattle.std.proofs.Common.{◌≡◌, ℕ, zero, suc, ◌<◌, Bool, true, false, cond, not, eqb, List, [], ◌∷◌, ◌++◌, map, length, get_or, take, drop, filter, sym, refl, ap, ◌∙◌, arith, rules}
+use Rattle.std.proofs.lemmas.List.{places, length-map, get_or-map, length-take-le}
 use Rattle.shapes.specs.Answers.{none}
 use Rattle.interface.specs.declared.values.AtlasCommand.{AtlasCommand}
 use Rattle.pages.specs.declared.recorder.AtlasCommandRecorder.{AtlasCommandRecorder}

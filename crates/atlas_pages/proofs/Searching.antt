@@ -1,7 +1,6 @@
 -- Whether some page passes a test, decided page by page; and the pages that pass, from a place on. Assumes nothing.
-use Rattle.std.proofs.Common.{◌≡◌, ℕ, ◌+◌, ◌<◌, ◌≤◌, Bool, true, false, cond, List, [], ◌∷◌, map, length, get_or, drop, filter, sym, refl, ap, ◌∙◌}
+use Rattle.std.proofs.Common.{◌≡◌, ℕ, ◌+◌, ◌<◌, ◌≤◌, Bool, true, false, cond, List, [], ◌∷◌, map, length, get_or, drop, filter, sym, ap, ◌∙◌}
 use Rattle.std.proofs.lemmas.List.{at_drop_more, drop_all}
-use Rattle.shapes.specs.Answers.{none}
 use Rattle.pages.specs.declared.recorder.AtlasCommandRecorder.{AtlasCommandRecorder}
 use Rattle.pages.specs.Pages.{Page, page_of}
 

@@ -1,5 +1,5 @@
 -- One call more, and one list of calls after another, on any sink. Assumes nothing.
-use Rattle.std.proofs.Common.{◌≡◌, ℕ, ◌+◌, ◌<◌, ◌≤◌, List, [], ◌∷◌, ◌++◌, length, sym, refl, ap, ◌∙◌, append_assoc, append-nil, arith, length-append}
+use Rattle.std.proofs.Common.{◌≡◌, ◌<◌, List, [], ◌∷◌, ◌++◌, sym, refl, ap, ◌∙◌, append_assoc, append-nil, arith, length-append}
 use Rattle.interface.specs.declared.call.Call.{Call}
 use Rattle.interface.specs.Sinks.{Sink, SameScreen, Appended, Extended}
 

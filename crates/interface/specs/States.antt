@@ -2,7 +2,7 @@
 --     IsLatest k s        k is the latest state that s handed out and did not take back: its screen and its depth agree
 --     Issued s r t        s hands a state out, and becomes t
 --     TakenBack s k r t   s takes the state k back, and becomes t
-use Rattle.std.specs.Prelude.{◌≡◌, ℕ, ◌+◌, ◌-◌, ◌^◌, ◌<◌, Ok, Err, Result}
+use Rattle.std.specs.Prelude.{◌≡◌, ◌+◌, ◌-◌, ◌^◌, ◌<◌, Ok, Err, Result}
 use Rattle.interface.specs.declared.fault.SinkFault.{SinkFault}
 use Rattle.interface.specs.declared.state.SavedState.{SavedState}
 use Rattle.interface.specs.declared.state.SavedStates.{SavedStates}

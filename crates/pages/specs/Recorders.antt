@@ -1,7 +1,7 @@
 -- What a page recorder means as a sink. Assumes nothing.
 --     recorder_means r    its commands, with places for 120; no state saved, number 0, black, and zeros for every slot
 --     black               red, green and blue 0, alpha 1
-use Rattle.std.specs.Prelude.{ℕ, ◌-◌, List, map, length}
+use Rattle.std.specs.Prelude.{◌-◌, List, map, length}
 use Rattle.shapes.specs.declared.Affine.{Affine}
 use Rattle.shapes.specs.declared.Color.{Color}
 use Rattle.shapes.specs.Numbers.{zero, one}

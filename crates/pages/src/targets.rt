@@ -19,8 +19,8 @@ pub struct SinkTarget<'a, S> {
 }
 
 fn send_all<S: DrawSink>(sink: &mut S, commands: &[AtlasCommand])
-    requires { length commands.now ≤ (means sink.old).free }
-    ensures { Extended (means sink.old) (map Command commands.now) (means sink.new) }
+    requires { length commands.now ≤ (S.DrawSink.means sink.old).free }
+    ensures { Extended (S.DrawSink.means sink.old) (map Command commands.now) (S.DrawSink.means sink.new) }
 {
     for command in commands {
         let Ok(()) = sink.send(*command) else {

@@ -1,5 +1,5 @@
 -- A page with a command decides it; without one, those after it do.
-use Rattle.std.proofs.Common.{◌≡◌, not, sym, ap, ◌∙◌}
+use Rattle.std.proofs.Common.{not, sym, ap, ◌∙◌}
 use Rattle.shapes.specs.Answers.{none}
 use Rattle.pages.specs.Pages.{has_commands}
 use Rattle.atlas_pages.proofs.Searching.{passing_here, passing_later, passing_none}

@@ -1,5 +1,5 @@
 -- A page without commands is passed over, one with some is offered, and a failure ends it.
-use Rattle.std.proofs.Common.{◌≡◌, ◌+◌, true, false, not, Err, sym, ap, ◌∙◌, subst}
+use Rattle.std.proofs.Common.{◌+◌, not, Err, sym, ap, ◌∙◌, subst}
 use Rattle.std.proofs.lemmas.Result.{err_from_is_err_and}
 use Rattle.atlas_pages.proofs.Offering.{OffersFrom, pass_over, goes_on, fails_at, all_offered}
 use Rattle.atlas_pages.proofs.sets.offer_to.Goals as goal

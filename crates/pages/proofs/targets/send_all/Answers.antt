@@ -7,7 +7,7 @@ pub loop-command-init : goal.loop-command-init
 loop-command-init g c = none_yet _
 
 pub unreachable-requires : goal.unreachable-requires
-unreachable-requires g c u =
+unreachable-requires g c =
     some_place _ _ _ _ c.loop-command-test.true c.requires c.loop-command.invariant c.in_default.ensures.sends.0
 
 pub loop-command-preserved : goal.loop-command-preserved

@@ -10,4 +10,4 @@ add_to-requires c = (four _ c.args.self.now.numbered, sym c.if-is_crowded.ensure
 
 pub invariant_of-self : goal.invariant_of-self
 invariant_of-self c =
-    (still_numbered (add_commands c.args.page c.args.commands) (same_number c.args.page c.args.commands) _ _ c.args.self.now.numbered c.add_to.ensures, tt)
+    record { numbered = still_numbered (add_commands c.args.page c.args.commands) (same_number c.args.page c.args.commands) _ _ c.args.self.now.numbered c.add_to.ensures }

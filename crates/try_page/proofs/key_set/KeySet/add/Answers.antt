@@ -1,4 +1,4 @@
-use Rattle.std.proofs.Common.{◌≡◌, Bool, true, false, cond, ◌||◌, List, [], ◌∷◌, ◌++◌, is_ok, vec_items, sym, refl, ap, ◌∙◌}
+use Rattle.std.proofs.Common.{◌≡◌, Bool, true, false, cond, List, [], ◌∷◌, ◌++◌, is_ok, vec_items, sym, ap, ◌∙◌}
 use Rattle.glyph_key.specs.declared.key.GlyphCacheKey.{GlyphCacheKey}
 use Rattle.try_page.specs.Once.{known, repeats}
 use Rattle.glyph_key.proofs.Once.{still_once}
@@ -12,4 +12,4 @@ pushed false k ks after e p q = ap repeats e ∙ p
 pub invariant_of-self : goal.invariant_of-self
 invariant_of-self c =
     let new : known (vec_items c.args.self.now.items) c.args.key ≡ false = ap (λ (l : List GlyphCacheKey). known l c.args.key) (sym c.as_slice.ensures.value) ∙ sym c.if-is_known.ensures in
-    (pushed (is_ok c.push.result) c.args.key (vec_items c.args.self.now.items) (vec_items c.push.new.self) c.push.ensures.items c.args.self.now.once new, tt)
+    record { once = pushed (is_ok c.push.result) c.args.key (vec_items c.args.self.now.items) (vec_items c.push.new.self) c.push.ensures.items c.args.self.now.once new }

@@ -1,5 +1,5 @@
 -- What a screen was sent: calls one after the other, and these between a save and its restore.
-use Rattle.std.proofs.Common.{◌≡◌, List, [], ◌∷◌, ◌++◌, Ok, sym, refl, ap, ◌∙◌, append_assoc, append-nil, arith, length-append}
+use Rattle.std.proofs.Common.{List, [], ◌∷◌, ◌++◌, Ok, sym, refl, ap, ◌∙◌, append_assoc, append-nil, arith, length-append}
 use Rattle.shapes.specs.declared.Affine.{Affine}
 use Rattle.raster.specs.declared.glyph.Glyph.{Glyph}
 use Rattle.raster.specs.declared.glyph.Glyph.TheVariants.{Outline, Bitmap}

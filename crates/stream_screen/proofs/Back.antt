@@ -1,5 +1,5 @@
 -- A call's payload, read back, is the call.
-use Rattle.std.proofs.Common.{◌≡◌, ℕ, zero, suc, ◌+◌, ◌*◌, ◌/◌, ◌%◌, ◌^◌, ◌<◌, T, List, [], ◌∷◌, Some, None, Option, refl, ap, ◌∙◌, pow-suc, arith}
+use Rattle.std.proofs.Common.{◌≡◌, ℕ, zero, suc, ◌/◌, ◌^◌, ◌<◌, T, List, [], ◌∷◌, Some, None, Option, refl, ap, ◌∙◌, pow-suc, arith}
 use lib.Ieee.{Float, binary32, binary64, to_bits, of_bits, fits}
 use lib.Ieee.Bits.{of_bits-to_bits, to_bits-lt}
 use Rattle.shapes.specs.declared.Affine.{Affine}
@@ -8,9 +8,7 @@ use Rattle.shapes.specs.declared.Path.{Path}
 use Rattle.shapes.specs.declared.Color.{Color}
 use Rattle.interface.specs.declared.values.AtlasPaint.{AtlasPaint}
 use Rattle.interface.specs.declared.values.AtlasPaint.TheVariants.{Solid, Gradient}
-use Rattle.interface.specs.declared.values.ImageQuality.{ImageQuality}
 use Rattle.interface.specs.declared.values.ImageQuality.TheVariants.{Low, Medium}
-use Rattle.interface.specs.declared.values.AtlasCommand.{AtlasCommand}
 use Rattle.interface.specs.declared.values.AtlasCommand.TheVariants.{SetTransform, SetPaint, SetPaintTransform, FillPath, FillRect, PushClipLayer, PushClipPath, PushClipRect, PushBlendLayer, PopLayer, PopClipPath}
 use Rattle.interface.specs.declared.call.Picture.{Picture}
 use Rattle.interface.specs.declared.call.Picture.TheVariants.{PixmapHandle, AtlasPage}
@@ -18,7 +16,7 @@ use Rattle.interface.specs.declared.call.Call.{Call}
 use Rattle.interface.specs.declared.call.Call.TheVariants.{Command, SaveState, RestoreState, StrokePath, SetPaintImage, SetTint}
 use Rattle.stream_screen.specs.Stream.{bytes_of, f32_bytes, f64_bytes, affine_bytes, rect_bytes, path_bytes, color_bytes, paint_bytes, picture_bytes, tint_bytes, kind_of, payload_of}
 use Rattle.stream_screen.specs.Reads.{number_of, affine_at, rect_at, path_at, color_at, paint_at, picture_at, tint_at, call_of}
-use Rattle.stream_screen.specs.Writes.{FitsAffine, FitsRect, FitsHandle, FitsPath, FitsColor, FitsPaint, FitsPicture, FitsTint, FitsCommand, FitsCall}
+use Rattle.stream_screen.specs.Writes.{FitsAffine, FitsRect, FitsPath, FitsColor, FitsPaint, FitsPicture, FitsTint, FitsCall}
 
 -- k bytes back to their number
 pub number_back : (k n : ℕ) → n < 256 ^ k → number_of (bytes_of k n) ≡ n

@@ -1,11 +1,11 @@
 -- The worked cases hold by computing, and three calls have these bytes.
-use Rattle.std.proofs.Common.{◌≡◌, ℕ, List, [], ◌∷◌, ◌++◌, refl, ap, ◌∙◌}
+use Rattle.std.proofs.Common.{◌≡◌, List, [], ◌∷◌, ◌++◌, refl, ap, ◌∙◌}
 use lib.Ieee.{to_bits}
 use Rattle.interface.specs.declared.values.AtlasCommand.TheVariants.{PopLayer}
 use Rattle.interface.specs.declared.call.Call.{Call}
 use Rattle.interface.specs.declared.call.Call.TheVariants.{Command, SaveState, RestoreState}
 use Rattle.stream_screen.specs.Stream.{stream_of}
-use Rattle.stream_screen.specs.Worked.{Numbers, Written, ReadBack, Worked}
+use Rattle.stream_screen.specs.Worked.{Numbers, Worked}
 
 numbers : Numbers
 unfolding to_bits

@@ -1,5 +1,5 @@
 -- Records, one after the other, read back as their calls.
-use Rattle.std.proofs.Common.{◌≡◌, ℕ, zero, suc, ◌+◌, ◌<◌, ◌≤◌, List, [], ◌∷◌, ◌++◌, length, take, drop, Some, None, sym, refl, ap, ◌∙◌, subst, append_assoc, append-nil, arith, lit≤, length-append}
+use Rattle.std.proofs.Common.{◌≡◌, ℕ, zero, suc, ◌<◌, ◌≤◌, List, [], ◌∷◌, ◌++◌, length, take, drop, Some, None, sym, refl, ap, ◌∙◌, subst, append_assoc, append-nil, arith, lit≤, length-append}
 use lib.Seq.{take-append_seam, drop-append_seam}
 use Rattle.interface.specs.declared.values.AtlasPaint.TheVariants.{Solid, Gradient}
 use Rattle.interface.specs.declared.values.AtlasCommand.TheVariants.{SetTransform, SetPaint, SetPaintTransform, FillPath, FillRect, PushClipLayer, PushClipPath, PushClipRect, PushBlendLayer, PopLayer, PopClipPath}

@@ -15,7 +15,6 @@ use Rattle.interface.specs.declared.values.AtlasPaint.TheVariants.{Solid, Gradie
 use Rattle.interface.specs.declared.values.BlendMode.{BlendMode}
 use Rattle.interface.specs.declared.values.ImageQuality.{ImageQuality}
 use Rattle.interface.specs.declared.values.ImageQuality.TheVariants.{Low, Medium}
-use Rattle.interface.specs.declared.values.AtlasCommand.{AtlasCommand}
 use Rattle.interface.specs.declared.values.AtlasCommand.TheVariants.{SetTransform, SetPaint, SetPaintTransform, FillPath, FillRect, PushClipLayer, PushClipPath, PushClipRect, PushBlendLayer, PopLayer, PopClipPath}
 use Rattle.interface.specs.declared.call.Picture.{Picture}
 use Rattle.interface.specs.declared.call.Picture.TheVariants.{PixmapHandle, AtlasPage}

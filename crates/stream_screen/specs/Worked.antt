@@ -1,16 +1,14 @@
 -- Worked cases of records, as one statement. A float is written `fin s m e`: m * 2 ^ e, negative where s is true.
-use Rattle.std.specs.Prelude.{◌≡◌, ℕ, false, List, [], ◌∷◌, length, take, pos, Some, None}
+use Rattle.std.specs.Prelude.{◌≡◌, false, [], ◌∷◌, length, take, pos, None}
 use Rattle.std.specs.Float.{nan, fin}
 use Rattle.shapes.specs.declared.Affine.{Affine}
 use Rattle.shapes.specs.declared.Rect.{Rect}
-use Rattle.shapes.specs.Numbers.{zero, one}
 use Rattle.interface.specs.declared.values.AtlasPaint.TheVariants.{Gradient}
 use Rattle.interface.specs.declared.values.ImageQuality.TheVariants.{Low, Medium}
 use Rattle.interface.specs.declared.values.AtlasCommand.TheVariants.{SetTransform, SetPaint, FillRect, PushBlendLayer, PopLayer}
 use Rattle.interface.specs.declared.call.Picture.TheVariants.{PixmapHandle, AtlasPage}
-use Rattle.interface.specs.declared.call.Call.{Call}
 use Rattle.interface.specs.declared.call.Call.TheVariants.{Command, SaveState, RestoreState, SetPaintImage, SetTint}
-use Rattle.stream_screen.specs.Stream.{f32_bytes, f64_bytes, record_of, stream_of}
+use Rattle.stream_screen.specs.Stream.{f32_bytes, f64_bytes, record_of}
 use Rattle.stream_screen.specs.Reads.{calls_in}
 
 -- 1, and every NaN by one pattern

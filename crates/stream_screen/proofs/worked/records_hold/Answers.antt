@@ -1,5 +1,5 @@
 -- From the contracts alone: what the screen has written is the records of its three calls.
-use Rattle.std.proofs.Common.{ap, ◌∙◌}
+use Rattle.std.proofs.Common.{sym, ap, ◌∙◌}
 use Rattle.std.proofs.lemmas.Slice.Eq.{slice_eq-Decides}
 use Rattle.stream_screen.proofs.Streams.{reads_back, record_short}
 use Rattle.stream_screen.proofs.Cases.{worked, three_records}
@@ -13,5 +13,5 @@ returns c =
       cases = worked;
       reads = reads_back;
       short = record_short;
-      run = (slice_eq-Decides Decides-eqb _ _ _ c.eq.ensures).1 (c.bytes.ensures ∙ wrote);
+      run = (slice_eq-Decides Decides-eqb _ _ _ c.eq.ensures).1 (c.bytes.ensures ∙ wrote ∙ sym c.as_slice.ensures);
     }

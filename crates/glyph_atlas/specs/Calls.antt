@@ -8,7 +8,7 @@
 --     Emptied a b, Uncounted a b    everything forgotten, the counters alone
 --     Placed c m s d                the cache took one image, and s is the slot in it
 --     Told                          what came of a replay, without the kind of its target: what was offered, and whether the last failed
-use Rattle.std.specs.Prelude.{◌≡◌, ℕ, ◌+◌, ◌-◌, ◌^◌, ◌<◌, Bool, true, false, cond, not, ◌&&◌, ◌||◌, List, [], ◌∷◌, ◌++◌, map, length, is_some, Some, None, Ok, Err, filter, Option, Result, ◌==◌, nat_le}
+use Rattle.std.specs.Prelude.{◌≡◌, ℕ, ◌+◌, ◌-◌, ◌^◌, ◌<◌, Bool, cond, not, ◌&&◌, List, [], ◌∷◌, ◌++◌, map, length, is_some, Some, None, Ok, Err, filter, Option, Result, ◌==◌, nat_le}
 use Rattle.shapes.specs.Answers.{none}
 use Rattle.glyph_key.specs.declared.key.GlyphCacheKey.{GlyphCacheKey}
 use Rattle.image_cache.specs.declared.fault.CacheFault.{CacheFault}

@@ -5,7 +5,7 @@
 --     barred es k m        why no entry of that key and those metrics can be made, whatever the cache, by number: 5, 6, 12
 --     grown a es           the atlas with other entries
 --     aged t g e, unaged t g e   at tick t, the last use of the entry lies more than g ticks back; it does not
-use Rattle.std.specs.Prelude.{◌≡◌, ℕ, ◌+◌, ◌<◌, Bool, cond, not, List, map, length, is_some, Some, None, Ok, Err, Option, Result, slice_set}
+use Rattle.std.specs.Prelude.{◌≡◌, ℕ, ◌+◌, ◌<◌, Bool, cond, not, List, length, is_some, Some, None, Ok, Err, Option, Result, slice_set}
 use Rattle.std.specs.List.{slice_get}
 use Rattle.glyph_key.specs.declared.key.GlyphCacheKey.{GlyphCacheKey}
 use Rattle.image_cache.specs.declared.fault.CacheFault.{CacheFault}

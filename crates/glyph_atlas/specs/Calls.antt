@@ -2,7 +2,7 @@
 -- A refused call leaves everything equal. Only the ids of images are free: `Placed` names them. Assumes nothing.
 --     Got a k r b                   a lookup
 --     Inserted a c k m r b d        a new entry of key k for a picture of metrics m
---     ClearTaken a r b, UploadTaken a r b    the oldest of what waits
+--     ClearTaken a r b, UploadTaken a r b      the oldest of what waits
 --     Replayed takes a t r b u      the pages offered to a target, by what its kind does with an offer
 --     Maintained a c r b d          one tick, and the old entries leave where that is due
 --     Emptied a b, Uncounted a b    everything forgotten, the counters alone

@@ -26,19 +26,19 @@ raised_odd a d D p =
 
 -- equal fractions
 raised_same : (a d n u : ℕ) → 0 < d → 0 < u → a * u ≡ n * d → ratio_ceil a d ≡ ratio_ceil n u
-raised_same a d n u D units_in_one e =
-    let q : a / d ≡ n / u = div_same a d n u D units_in_one e in
-    let l : a % d * u ≡ n % u * d = left_over a d n u D units_in_one e in
+raised_same a d n u D U e =
+    let q : a / d ≡ n / u = div_same a d n u D U e in
+    let l : a % d * u ≡ n % u * d = left_over a d n u D U e in
     elim (eq-zero-or-pos (a % d)) [
       | inl z ↦
           elim (eq-zero-or-pos (n % u)) [
-            | inl y ↦ raised_even a d D z ∙ q ∙ sym (raised_even n u units_in_one y)
+            | inl y ↦ raised_even a d D z ∙ q ∙ sym (raised_even n u U y)
             | inr y ↦ absurd (lt_irrefl 0 (subst (λ (k : ℕ). 0 < k) (sym l ∙ ap (λ (k : ℕ). k * u) z ∙ zero-mul u) (mul-pos y D)))
           ]
       | inr z ↦
           elim (eq-zero-or-pos (n % u)) [
-            | inl y ↦ absurd (lt_irrefl 0 (subst (λ (k : ℕ). 0 < k) (l ∙ ap (λ (k : ℕ). k * d) y ∙ zero-mul d) (mul-pos z units_in_one)))
-            | inr y ↦ raised_odd a d D z ∙ ap suc q ∙ sym (raised_odd n u units_in_one y)
+            | inl y ↦ absurd (lt_irrefl 0 (subst (λ (k : ℕ). 0 < k) (l ∙ ap (λ (k : ℕ). k * d) y ∙ zero-mul d) (mul-pos z U)))
+            | inr y ↦ raised_odd a d D z ∙ ap suc q ∙ sym (raised_odd n u U y)
           ]
     ]
 

@@ -54,13 +54,13 @@ module _ (f : Format) where
   units_in_one = 2 ^ low f
 
   same_test : (a d w u n : ℕ) → 0 < d → 0 < u → (a - w * d) * u ≡ n * d → w * d ≤ a → ltb (w * d) a ≡ ltb 0 n
-  same_test a d w u n D units_in_one e h =
+  same_test a d w u n D U e h =
       elim (eq-zero-or-pos n) [
         | inl z ↦
             let p : (a - w * d) * u ≡ 0 = e ∙ ap (λ (k : ℕ). k * d) z ∙ zero-mul d in
             elim (eq-zero-or-pos (a - w * d)) [
               | inl y ↦ le-ltb _ _ (omega arith) ∙ sym (le-ltb 0 n (omega arith))
-              | inr y ↦ absurd (native.Mathlib.Nat.lt_irrefl 0 (subst (λ (k : ℕ). 0 < k) p (mul-pos y units_in_one)))
+              | inr y ↦ absurd (native.Mathlib.Nat.lt_irrefl 0 (subst (λ (k : ℕ). 0 < k) p (mul-pos y U)))
             ]
         | inr y ↦
             elim (eq-zero-or-pos (a - w * d)) [

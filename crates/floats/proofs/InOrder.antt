@@ -10,20 +10,20 @@ use Rattle.floats.proofs.Scaling.{ltb_scale, eqb_scale}
 use Rattle.floats.proofs.Units.{whole, units_at, units_cross}
 use Rattle.floats.specs.Units.{units_of}
 
-module _ (u v : ℕ) (units_in_one : 0 < u) (V : 0 < v) where
+module _ (u v : ℕ) (U : 0 < u) (V : 0 < v) where
   nought : 0 * u ≡ 0 * v
   nought = zero-mul u ∙ sym (zero-mul v)
 
   below_scale : (s t : Bool) (a b m n : ℕ) → a * u ≡ m * v → b * u ≡ n * v → below s a t b ≡ below s m t n
-  below_scale false false a b m n p q = ltb_scale u v units_in_one V a b m n p q
+  below_scale false false a b m n p q = ltb_scale u v U V a b m n p q
   below_scale false true a b m n p q = refl
-  below_scale true false a b m n p q = ltb_scale u v units_in_one V 0 (a + b) 0 (m + n) nought (omega arith)
-  below_scale true true a b m n p q = ltb_scale u v units_in_one V b a n m q p
+  below_scale true false a b m n p q = ltb_scale u v U V 0 (a + b) 0 (m + n) nought (omega arith)
+  below_scale true true a b m n p q = ltb_scale u v U V b a n m q p
 
   level_scale : (s t : Bool) (a b m n : ℕ) → a * u ≡ m * v → b * u ≡ n * v → level s a t b ≡ level s m t n
   level_scale s t a b m n p q =
-      ap (λ (x : Bool). x && (beq s t || eqb a 0)) (eqb_scale u v units_in_one V a b m n p q)
-      ∙ ap (λ (x : Bool). eqb m n && (beq s t || x)) (eqb_scale u v units_in_one V a 0 m 0 p nought)
+      ap (λ (x : Bool). x && (beq s t || eqb a 0)) (eqb_scale u v U V a b m n p q)
+      ∙ ap (λ (x : Bool). eqb m n && (beq s t || x)) (eqb_scale u v U V a 0 m 0 p nought)
 
 -- ±m and ±n
 abbrev signed : Bool → ℕ → ℤ

@@ -2,13 +2,13 @@
 use Rattle.std.proofs.Common.{◌≡◌, ℕ, ◌+◌, ◌-◌, ◌*◌, ◌<◌, ◌≤◌, eqb, ltb, sym, ap, ◌∙◌, subst, inl, inr, mul-le-mul_right, mul_comm, eq-zero-or-pos, lt_of_mul-lt-mul_right, mul-lt-mul_of_pos_right, le_of_mul-le-mul_right, arith, le-ltb, lt-ltb, eq-eqb, ne_eqb}
 use native.Mathlib.Nat.{mul-sub, eq_of_mul-eq-mul_right}
 
-module _ (u v : ℕ) (units_in_one : 0 < u) (V : 0 < v) where
+module _ (u v : ℕ) (U : 0 < u) (V : 0 < v) where
   pub ltb_scale : (a b m n : ℕ) → a * u ≡ m * v → b * u ≡ n * v → ltb a b ≡ ltb m n
   ltb_scale a b m n p q =
       elim (eq-zero-or-pos (n - m)) [
         | inl z ↦
             let h : n ≤ m = omega arith in
-            le-ltb a b (le_of_mul-le-mul_right {k = u} (subst (λ (k : ℕ). k ≤ a * u) (sym q) (subst (λ (k : ℕ). n * v ≤ k) (sym p) (mul-le-mul_right v h))) units_in_one) ∙ sym (le-ltb m n h)
+            le-ltb a b (le_of_mul-le-mul_right {k = u} (subst (λ (k : ℕ). k ≤ a * u) (sym q) (subst (λ (k : ℕ). n * v ≤ k) (sym p) (mul-le-mul_right v h))) U) ∙ sym (le-ltb m n h)
         | inr z ↦
             let h : m < n = omega arith in
             lt-ltb a b (lt_of_mul-lt-mul_right u (subst (λ (k : ℕ). k < b * u) (sym p) (subst (λ (k : ℕ). m * v < k) (sym q) (mul-lt-mul_of_pos_right h V)))) ∙ sym (lt-ltb m n h)
@@ -19,7 +19,7 @@ module _ (u v : ℕ) (units_in_one : 0 < u) (V : 0 < v) where
       elim (eq-zero-or-pos ((n - m) + (m - n))) [
         | inl z ↦
             let h : m ≡ n = omega arith in
-            eq-eqb a b (eq_of_mul-eq-mul_right u units_in_one a b (p ∙ ap (λ (k : ℕ). k * v) h ∙ sym q)) ∙ sym (eq-eqb m n h)
+            eq-eqb a b (eq_of_mul-eq-mul_right u U a b (p ∙ ap (λ (k : ℕ). k * v) h ∙ sym q)) ∙ sym (eq-eqb m n h)
         | inr z ↦
             ne_eqb a b (λ e. let h : m ≡ n = eq_of_mul-eq-mul_right v V m n (sym p ∙ ap (λ (k : ℕ). k * u) e ∙ q) in omega arith) ∙ sym (ne_eqb m n (λ e. omega arith))
       ]

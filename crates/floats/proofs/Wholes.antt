@@ -9,13 +9,13 @@ neg_times (pos zero) u = zero-*ℤ (pos u) ∙ sym (ap neg_ℤ (zero-*ℤ (pos u
 neg_times (pos (suc n)) u = negsuc-*ℤ-pos n u ∙ sym (ap neg_ℤ (pos-*ℤ-pos (suc n) u))
 neg_times (negsuc n) u = pos-*ℤ-pos (suc n) u ∙ sym (ap neg_ℤ (negsuc-*ℤ-pos n u) ∙ neg_ℤ-neg_ℤ (pos (suc n * u)))
 
-module _ (u : ℕ) (units_in_one : 0 < u) where
+module _ (u : ℕ) (U : 0 < u) where
   pub floor_not_above : (z : ℤ) → (floor_by u z *ℤ pos u) ≤ℤ z
   floor_not_above (pos n) = omega (arith, ints, div-add-mod' n u)
-  floor_not_above (negsuc n) = let l = mod-lt n units_in_one in omega (arith, ints, div-add-mod' n u, suc-mul (n / u) u)
+  floor_not_above (negsuc n) = let l = mod-lt n U in omega (arith, ints, div-add-mod' n u, suc-mul (n / u) u)
 
   pub floor_next : (z : ℤ) → z <ℤ ((floor_by u z +ℤ pos 1) *ℤ pos u)
-  floor_next (pos n) = let l = mod-lt n units_in_one in omega (arith, ints, div-add-mod' n u, add-mul (n / u) 1 u)
+  floor_next (pos n) = let l = mod-lt n U in omega (arith, ints, div-add-mod' n u, add-mul (n / u) 1 u)
   floor_next (negsuc n) =
       let e : negsuc (n / u) +ℤ pos 1 ≡ neg_ℤ (pos (n / u)) = omega (arith, ints) in
       subst (λ (k : ℤ). negsuc n <ℤ k) (sym (ap (λ (k : ℤ). k *ℤ pos u) e ∙ neg_times (pos (n / u)) u)) (omega (arith, ints, div-add-mod' n u))

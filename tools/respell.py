@@ -108,10 +108,13 @@ def scope(path, text, own, fields):
                 names.setdefault(name, own[crate][name])
     for name, source in imports(text):
         parts = source.split(".")
-        if parts[0] == "Rattle" and len(parts) > 1 and parts[1] in own:
-            if name in own[parts[1]]:
-                names[name] = own[parts[1]][name]
-        elif name in names and not (parts[0] == "Rattle" and len(parts) > 1 and parts[1] in os.listdir(CRATES)):
+        if parts[0] == "Rattle" and len(parts) > 1 and parts[1] in os.listdir(CRATES):
+            # from the crate that defines it, or from one that hands it on
+            for crate in [parts[1]] + sorted(own):
+                if name in own.get(crate, {}):
+                    names[name] = own[crate][name]
+                    break
+        elif name in names:
             print(f"kept in {path}: {name}, of {source}", file=sys.stderr)
             del names[name]
     return names

@@ -3,7 +3,7 @@
 --     blank n                the page of that number, with no command
 --     crowded p              fewer than 3 of its 120 places are free; any_crowded ps: of some page
 --     add_commands n cs p    the page p, with the commands cs more if its number is n
---     RecordedOn ps n cs r qs    the commands cs recorded for the page of number n: refused exactly where some page is crowded
+--     RecordedOn ps n cs r qs     the commands cs recorded for the page of number n: refused exactly where some page is crowded
 --     Offers takes qs t r u  of the pages qs, those that were offered to the target t: all, or none after the first that failed
 use Rattle.std.specs.Prelude.{◌≡◌, ℕ, ◌-◌, Bool, true, false, cond, not, List, [], map, length, Ok, Err, filter, Result, ◌==◌, nat_lt}
 use Rattle.shapes.specs.Answers.{none}

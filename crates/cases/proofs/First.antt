@@ -1,5 +1,5 @@
 -- The first image of a new grid, from what the grid's calls promise: it fits, and it goes to the last cell of the first page.
-use Rattle.std.proofs.Common.{◌≡◌, ℕ, ◌*◌, ◌/◌, ◌%◌, ◌<◌, ◌≤◌, true, false, Some, Option, sym, ap, ◌∙◌, ⊎_elim, arith}
+use Rattle.std.proofs.Common.{◌≡◌, ℕ, ◌*◌, ◌/◌, ◌%◌, ◌≤◌, Some, sym, ap, ◌∙◌, ⊎_elim, arith}
 use Rattle.std.proofs.lemmas.Bool.{cases_lt, both_ways}
 use Rattle.image_cache.specs.Caches.{Added, NoRoom}
 use Rattle.image_cache.specs.declared.image.Image.{Image}

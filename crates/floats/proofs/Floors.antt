@@ -1,8 +1,8 @@
 -- Floor and ceiling of a finite f64, cut to 32 bits, by units. Assumes nothing.
-use Rattle.std.proofs.Common.{◌≡◌, ℕ, zero, suc, ◌+◌, ◌-◌, ◌*◌, ◌/◌, ◌%◌, ◌^◌, ◌<◌, ◌≤◌, min, Bool, true, false, cond, T, eqb, ℤ, pos, negsuc, neg_ℤ, sym, refl, ap, ◌∙◌, subst, inl, inr, true≢false, le_trans, le_of_eq, le_of_lt, lt_irrefl, mod-lt, zero-lt-suc, eq-zero-or-pos, mul-le-mul_left, mul-pos, div-add-mod', zero-mul, mul-one, div-le_self, div-one, mul-div_cancel, arith, pow_pos}
+use Rattle.std.proofs.Common.{◌≡◌, ℕ, zero, suc, ◌+◌, ◌-◌, ◌*◌, ◌/◌, ◌%◌, ◌^◌, ◌<◌, ◌≤◌, min, Bool, true, false, cond, T, ℤ, pos, negsuc, neg_ℤ, sym, refl, ap, ◌∙◌, subst, inl, inr, le_trans, le_of_eq, le_of_lt, lt_irrefl, mod-lt, zero-lt-suc, eq-zero-or-pos, mul-le-mul_left, mul-pos, div-add-mod', zero-mul, mul-one, div-le_self, div-one, mul-div_cancel, arith, pow_pos}
 use lib.IntN.{neg_ℤ-neg_ℤ}
 use lib.Arith.{digits_div}
-use lib.Ieee.{Float, Format, nan, inf, fin, binary64, prec, low, up, down, round, to_signed, fits}
+use lib.Ieee.{Float, Format, nan, inf, fin, binary64, low, up, down, round, to_signed, fits}
 use lib.Ieee.Fits.{down_pos}
 use lib.Ieee.Nearest.{div_same}
 use lib.Ieee.Exact.{HasValue, round_exact}

@@ -1,11 +1,9 @@
 -- The order of two finite values is the order of their units. Assumes nothing.
-use Rattle.std.proofs.Common.{◌≡◌, ℕ, zero, suc, ◌+◌, ◌-◌, ◌*◌, ◌/◌, ◌^◌, ◌<◌, ◌≤◌, Bool, true, false, cond, ◌&&◌, ◌||◌, T, eqb, ltb, leb, ℤ, pos, negsuc, neg_ℤ, sym, refl, ap, ◌∙◌, subst, inl, inr, mul-le-mul_right, mul_assoc, mul_comm, eq-zero-or-pos, lt_of_mul-lt-mul_right, mul-lt-mul_of_pos_right, mul-pos, zero-mul, mul_right_comm, le_of_mul-le-mul_right, mul_left_comm, arith, pow_pos, le-ltb, lt-ltb, eq-eqb, ne_eqb, le-leb}
+use Rattle.std.proofs.Common.{◌≡◌, ℕ, zero, suc, ◌+◌, ◌*◌, ◌^◌, ◌<◌, Bool, true, false, cond, ◌&&◌, ◌||◌, T, eqb, ℤ, pos, neg_ℤ, sym, refl, ap, ◌∙◌, mul_assoc, mul_comm, mul-pos, zero-mul, mul_right_comm, arith, pow_pos}
 use mathlib.Core.Bool.{beq}
-use native.Mathlib.Nat.{eq_of_mul-eq-mul_right}
 use lib.Signed.{le_z, lt_z}
 use Rattle.std.proofs.lemmas.Bool.Decides.{nat_tests}
-use borrow.Author.Tests.{lt-leb}
-use lib.Ieee.{Float, nan, inf, fin, binary64, up, down, below, level, lt, eq, le, fits}
+use lib.Ieee.{Float, nan, inf, fin, binary64, up, down, below, level, lt, le, fits}
 use lib.Ieee.Fits.{down_pos}
 use Rattle.std.specs.Float.{float_is_finite}
 use Rattle.floats.proofs.Scaling.{ltb_scale, eqb_scale}

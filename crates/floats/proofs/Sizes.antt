@@ -1,5 +1,5 @@
 -- Comparisons with a literal, by units. Assumes nothing.
-use Rattle.std.proofs.Common.{◌≡◌, ℕ, zero, suc, ◌+◌, ◌-◌, ◌*◌, ◌/◌, ◌^◌, Bool, true, false, not, T, leb, ℤ, pos, neg_ℤ, nat_abs, sym, refl, ap, ◌∙◌, subst}
+use Rattle.std.proofs.Common.{◌≡◌, ℕ, zero, suc, ◌+◌, ◌-◌, ◌*◌, ◌/◌, ◌^◌, true, false, not, T, leb, ℤ, pos, neg_ℤ, nat_abs, sym, refl, ap, ◌∙◌}
 use lib.Signed.{le_z, lt_z}
 use lib.Ieee.{Float, nan, inf, fin, binary64, up, down, le, lt, fits, is_nan, of_bits}
 use lib.Ieee.Bits.{of_bits-fits}

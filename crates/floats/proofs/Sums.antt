@@ -1,7 +1,7 @@
 -- Sums of two fractions of one denominator, as `lib.Ieee` rounds them: of unlike signs, and over another denominator. Assumes nothing.
-use Rattle.std.proofs.Common.{◌≡◌, ℕ, ◌+◌, ◌-◌, ◌*◌, ◌<◌, Bool, true, false, cond, ◌&&◌, ltb, sym, refl, ap, ◌∙◌, add-mul, arith, lt-ltb}
+use Rattle.std.proofs.Common.{◌≡◌, ℕ, ◌+◌, ◌-◌, ◌*◌, ◌<◌, Bool, false, cond, ◌&&◌, ltb, sym, refl, ap, ◌∙◌, add-mul, arith, lt-ltb}
 use mathlib.Core.Bool.{beq}
-use lib.Ieee.{Float, Format, round, sum}
+use lib.Ieee.{Format, round, sum}
 use lib.Ieee.Scale.{round_same}
 use Rattle.floats.proofs.Scaling.{ltb_scale, sub_scale}
 

@@ -1,8 +1,8 @@
 -- Floats as whole numbers. A finite value of a format is a whole number of the format's smallest value, its unit, so that no digit is lost:
 -- 2 ^ -149 for f32, 2 ^ -1074 for f64. Assumes nothing.
---     units_in f x         a finite value of the format f in units
---     units_of x           the same of an f64
---     floor_by u z         the greatest whole number that is not above z / u
+--     units_in f x        a finite value of the format f in units
+--     units_of x          the same of an f64
+--     floor_by u z        the greatest whole number that is not above z / u
 --     floor_of z, ceil_of z the greatest whole number not above z units of an f64, the least not below
 use Rattle.std.specs.Prelude.{ℕ, ◌*◌, ◌/◌, ◌^◌, cond, ℤ, pos, negsuc, neg_ℤ, Float}
 use Rattle.std.specs.Float.{Format, nan, inf, fin, binary64}

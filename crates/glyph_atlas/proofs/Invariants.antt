@@ -1,5 +1,5 @@
 -- The keys still differ and the slots are still small when an entry takes another tick, and with one entry more. Assumes nothing.
-use Rattle.std.proofs.Common.{◌≡◌, ℕ, zero, suc, ◌+◌, ◌<◌, ◌≤◌, Bool, true, false, cond, ◌||◌, ltb, List, [], ◌∷◌, ◌++◌, length, get_or, set, Some, None, filter, sym, refl, ap, ◌∙◌, arith}
+use Rattle.std.proofs.Common.{◌≡◌, ℕ, zero, suc, ◌<◌, ◌≤◌, Bool, true, false, cond, ltb, List, [], ◌∷◌, ◌++◌, length, get_or, set, None, filter, refl, ap, ◌∙◌, arith}
 use Rattle.std.proofs.lemmas.List.{map-append}
 use Rattle.std.proofs.lemmas.List.Elements.{filter-append}
 use Rattle.std.proofs.lemmas.Bool.{or_from, le-ltb}
@@ -7,7 +7,6 @@ use Rattle.glyph_key.specs.declared.key.GlyphCacheKey.{GlyphCacheKey}
 use Rattle.glyph_key.specs.Keys.{same_key}
 use Rattle.glyph_key.specs.Once.{known, repeats}
 use Rattle.glyph_key.proofs.Once.{still_once}
-use Rattle.interface.specs.declared.region.AtlasSlot.{AtlasSlot}
 use Rattle.glyph_atlas.specs.declared.entry.GlyphCacheEntry.{GlyphCacheEntry}
 use Rattle.glyph_atlas.specs.Atlases.{lookup, new_entry}
 use Rattle.glyph_atlas.specs.Shape.{entry_key, keys_of, oversized}

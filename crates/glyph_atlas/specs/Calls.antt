@@ -2,13 +2,13 @@
 -- A refused call leaves everything equal. Only the ids of images are free: `Placed` names them. Assumes nothing.
 --     Got a k r b                   a lookup
 --     Inserted a c k m r b d        a new entry of key k for a picture of metrics m
---     ClearTaken a r b, UploadTaken a r b    the oldest of what waits
+--     ClearTaken a r b, UploadTaken a r b      the oldest of what waits
 --     Replayed takes a t r b u      the pages offered to a target, by what its kind does with an offer
 --     Maintained a c r b d          one tick, and the old entries leave where that is due
 --     Emptied a b, Uncounted a b    everything forgotten, the counters alone
 --     Placed c m s d                the cache took one image, and s is the slot in it
 --     Told                          what came of a replay, without the kind of its target: what was offered, and whether the last failed
-use Rattle.std.specs.Prelude.{◌≡◌, ℕ, ◌+◌, ◌-◌, ◌^◌, ◌<◌, Bool, true, false, cond, not, ◌&&◌, ◌||◌, List, [], ◌∷◌, ◌++◌, map, length, is_some, Some, None, Ok, Err, filter, Option, Result, ◌==◌, nat_le}
+use Rattle.std.specs.Prelude.{◌≡◌, ℕ, ◌+◌, ◌-◌, ◌^◌, ◌<◌, Bool, cond, not, ◌&&◌, List, [], ◌∷◌, ◌++◌, map, length, is_some, Some, None, Ok, Err, filter, Option, Result, ◌==◌, nat_le}
 use Rattle.shapes.specs.Answers.{none}
 use Rattle.glyph_key.specs.declared.key.GlyphCacheKey.{GlyphCacheKey}
 use Rattle.image_cache.specs.declared.fault.CacheFault.{CacheFault}

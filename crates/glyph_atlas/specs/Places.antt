@@ -1,11 +1,11 @@
 -- Words of the inner functions, which no public contract cites. Assumes nothing.
---     HeldAt k es i       the entry with the key k stands at the place i
---     PlaceOf k es r      r is that place, or no entry has the key
---     PlacedOr c m r d    the cache took an image for a picture of metrics m, and r is the slot in it; or it refused
+--     HeldAt k es i        the entry with the key k stands at the place i
+--     PlaceOf k es r       r is that place, or no entry has the key
+--     PlacedOr c m r d     the cache took an image for a picture of metrics m, and r is the slot in it; or it refused
 --     barred es k m        why no entry of that key and those metrics can be made, whatever the cache, by number: 5, 6, 12
 --     grown a es           the atlas with other entries
 --     aged t g e, unaged t g e   at tick t, the last use of the entry lies more than g ticks back; it does not
-use Rattle.std.specs.Prelude.{◌≡◌, ℕ, ◌+◌, ◌<◌, Bool, cond, not, List, map, length, is_some, Some, None, Ok, Err, Option, Result, slice_set}
+use Rattle.std.specs.Prelude.{◌≡◌, ℕ, ◌+◌, ◌<◌, Bool, cond, not, List, length, is_some, Some, None, Ok, Err, Option, Result, slice_set}
 use Rattle.std.specs.List.{slice_get}
 use Rattle.glyph_key.specs.declared.key.GlyphCacheKey.{GlyphCacheKey}
 use Rattle.image_cache.specs.declared.fault.CacheFault.{CacheFault}

@@ -1,7 +1,7 @@
 -- Putting what a new picture needs into the atlas's queues: the atlas a before it, the answer r, and b after it. Assumes nothing.
 --     Commanded a n cs r b    the commands cs for the page of number n: refused exactly where some page is crowded
 --     Queued a p r b          an upload: refused exactly where 64 wait
---     SameRest a b           all but the pages and the uploads
+--     SameRest a b            all but the pages and the uploads
 use Rattle.std.specs.Prelude.{◌≡◌, ℕ, ◌<◌, ◌≤◌, true, false, List, [], ◌∷◌, ◌++◌, map, length, Ok, Err, Result}
 use Rattle.interface.specs.declared.values.AtlasCommand.{AtlasCommand}
 use Rattle.atlas_pages.specs.AllPages.{any_crowded, add_commands}

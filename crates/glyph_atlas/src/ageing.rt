@@ -45,7 +45,7 @@ fn sweep<C: ImageCache>(
     requires sized { filter oversized entries.old ≡ [] }
     ensures stay { take result entries.new ≡ filter (unaged tick age) entries.old }
     ensures clears { held clears.new ≡ held clears.old ++ map padded (map slot_of (filter (aged tick age) entries.old)) }
-    ensures images { FreedAll (meaning cache.old) (map image_id (map slot_of (filter (aged tick age) entries.old))) (meaning cache.new) }
+    ensures images { FreedAll (C.meaning cache.old) (map image_id (map slot_of (filter (aged tick age) entries.old))) (C.meaning cache.new) }
 {
     let mut to = 0;
     for i in 0..entries.len() {
@@ -73,7 +73,7 @@ impl EntryTable {
         requires { length (held clears.old) + length self.old.entries.items ≤ 256 }
         ensures stay { self.new.entries.items ≡ filter (unaged tick age) self.old.entries.items }
         ensures clears { held clears.new ≡ held clears.old ++ map padded (map slot_of (filter (aged tick age) self.old.entries.items)) }
-        ensures images { FreedAll (meaning cache.old) (map image_id (map slot_of (filter (aged tick age) self.old.entries.items))) (meaning cache.new) }
+        ensures images { FreedAll (C.meaning cache.old) (map image_id (map slot_of (filter (aged tick age) self.old.entries.items))) (C.meaning cache.new) }
     {
         let staying = sweep(self.entries.as_mut_slice(), tick, age, clears, cache);
         self.entries.truncate(staying);

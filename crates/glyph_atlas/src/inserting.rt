@@ -64,7 +64,7 @@ impl GlyphAtlas {
         key: GlyphCacheKey,
         metrics: RasterMetrics,
     ) -> Result<(AtlasSlot, u32), AtlasFault>
-        ensures inserts { Inserted (model self.old) (meaning cache.old) key metrics result (model self.new) (meaning cache.new) }
+        ensures inserts { Inserted (model self.old) (C.meaning cache.old) key metrics result (model self.new) (C.meaning cache.new) }
         ensures keeps { KeepsRefused result self.old self.new × KeepsRefused result cache.old cache.new }
     {
         self.admit(&key, metrics)?;

@@ -35,7 +35,7 @@ pub(crate) fn place<C: ImageCache>(
     metrics: RasterMetrics,
 ) -> Result<AtlasSlot, CacheFault>
     requires { (metrics.width ≤ 65533) × (metrics.height ≤ 65533) }
-    ensures places { PlacedOr (meaning cache.old) metrics result (meaning cache.new) }
+    ensures places { PlacedOr (C.meaning cache.old) metrics result (C.meaning cache.new) }
     ensures keeps { KeepsRefused result cache.old cache.new }
 {
     let id = cache.allocate(metrics.width + PADDING, metrics.height + PADDING)?;

@@ -25,7 +25,7 @@ impl GlyphAtlas {
 
     fn advance<C: ImageCache>(&mut self, cache: &mut C)
         requires { no_upkeep (model self.old) ≡ None }
-        ensures { KeptUp (model self.old) (meaning cache.old) (model self.new) (meaning cache.new) }
+        ensures { KeptUp (model self.old) (C.meaning cache.old) (model self.new) (C.meaning cache.new) }
     {
         self.tick += 1;
         if self.tick.saturating_sub(self.last_due) < self.config.eviction_frequency {
@@ -42,7 +42,7 @@ impl GlyphAtlas {
 
     // Refused with 8 while anything waits, and with 16 at the last tick.
     pub(crate) fn maintain<C: ImageCache>(&mut self, cache: &mut C) -> Result<(), AtlasFault>
-        ensures maintains { Maintained (model self.old) (meaning cache.old) result (model self.new) (meaning cache.new) }
+        ensures maintains { Maintained (model self.old) (C.meaning cache.old) result (model self.new) (C.meaning cache.new) }
         ensures keeps { KeepsRefused result self.old self.new × KeepsRefused result cache.old cache.new }
     {
         self.may_advance()?;

@@ -1,6 +1,9 @@
 -- Keys whose numbers agree are equal, and the other way round. Assumes nothing.
-use Rattle.std.proofs.Common.{◌≡◌, ℕ, Bool, true, false, cond, ◌&&◌, T, eqb, List, [], ◌∷◌, get_or, ℤ, pos, negsuc, nat_abs, sym, refl, ap, subst, arith, eqb→eq}
+use Rattle.std.proofs.Common.{◌≡◌, ℕ, Bool, true, false, cond, ◌&&◌, ◌==◌, Decides, eqb, List, [], ◌∷◌, get_or, ℤ, pos, negsuc, nat_abs, sym, refl, ap, ◌∙◌, subst, arith, eqb→eq}
+use mathlib.Core.Bool.{beq}
 use lib.Dec.{eqb_refl}
+use Rattle.std.specs.Cmp.{both_ways, signed_Decides}
+use Rattle.std.specs.Ordering.{int_eq}
 use lib.Ieee.Bits.{is_true}
 use Rattle.floats.proofs.Numbers.{passes}
 use Rattle.glyph_key.specs.declared.key.GlyphCacheKey.{GlyphCacheKey}
@@ -78,11 +81,43 @@ equal_keys a b h =
 pub equal_same : (a b : GlyphCacheKey) → a ≡ b → same_key a b ≡ true
 equal_same a b e = let P : GlyphCacheKey → Type 0 = λ k. same_key a k ≡ true in subst P e (numbers_self (fields a))
 
--- what decides equality is the comparison
-pub decided : (r : Bool) (a b : GlyphCacheKey) → (r ≡ true → a ≡ b) → (a ≡ b → r ≡ true) → r ≡ same_key a b
-decided true a b f g = sym (equal_same a b (f refl))
-decided false a b f g = no (same_key a b) (λ h. g (equal_keys a b h))
+-- ---- the comparison that is derived, field by field in the order of the struct, is the comparison of all numbers
+flags : (x y : Bool) → beq x y ≡ (cond {A = ℕ} x 1 0 == cond y 1 0)
+flags true true = refl
+flags true false = refl
+flags false true = refl
+flags false false = refl
+
+signed : (x y : ℤ) → int_eq x y ≡ same_number x y
+signed x y =
+    let same : ℤ → Type 0 = λ z. same_number x z ≡ true in
+    both_ways (int_eq x y) (same_number x y) (λ h. subst same ((signed_Decides x y).0 h) (number_self x)) (λ h. (signed_Decides x y).1 (number_equal x y h))
+
+last : (x y : ℤ) → int_eq x y ≡ (same_number x y && true)
+last x y = signed x y ∙ sym (passing (same_number x y))
   where
-    no : (s : Bool) → (s ≡ true → false ≡ true) → false ≡ s
-    no true h = h refl
-    no false h = refl
+    passing : (s : Bool) → s && true ≡ s
+    passing true = refl
+    passing false = refl
+
+abbrev pub agrees : GlyphCacheKey → GlyphCacheKey → Bool
+agrees a b =
+    (a.font_id == b.font_id) && ((a.font_index == b.font_index) && ((a.glyph_id == b.glyph_id) && ((a.size_bits == b.size_bits) && (beq a.hinted b.hinted
+    && ((a.subpixel_x == b.subpixel_x) && ((a.context_color_packed == b.context_color_packed) && ((a.embolden_x_bits == b.embolden_x_bits)
+    && ((a.embolden_y_bits == b.embolden_y_bits) && ((a.embolden_join_bits == b.embolden_join_bits) && ((a.embolden_miter_limit_bits == b.embolden_miter_limit_bits)
+    && ((a.embolden_tolerance_bits == b.embolden_tolerance_bits) && ((a.axes == b.axes) && (int_eq a.axis0 b.axis0 && (int_eq a.axis1 b.axis1
+    && (int_eq a.axis2 b.axis2 && (int_eq a.axis3 b.axis3 && (int_eq a.axis4 b.axis4 && (int_eq a.axis5 b.axis5 && (int_eq a.axis6 b.axis6
+    && int_eq a.axis7 b.axis7)))))))))))))))))))
+
+pub agrees_same : (a b : GlyphCacheKey) → agrees a b ≡ same_key a b
+agrees_same a b = λ i.
+    (a.font_id == b.font_id) && ((a.font_index == b.font_index) && ((a.glyph_id == b.glyph_id) && ((a.size_bits == b.size_bits) && (flags a.hinted b.hinted i
+    && ((a.subpixel_x == b.subpixel_x) && ((a.context_color_packed == b.context_color_packed) && ((a.embolden_x_bits == b.embolden_x_bits)
+    && ((a.embolden_y_bits == b.embolden_y_bits) && ((a.embolden_join_bits == b.embolden_join_bits) && ((a.embolden_miter_limit_bits == b.embolden_miter_limit_bits)
+    && ((a.embolden_tolerance_bits == b.embolden_tolerance_bits) && ((a.axes == b.axes) && (signed a.axis0 b.axis0 i && (signed a.axis1 b.axis1 i
+    && (signed a.axis2 b.axis2 i && (signed a.axis3 b.axis3 i && (signed a.axis4 b.axis4 i && (signed a.axis5 b.axis5 i && (signed a.axis6 b.axis6 i
+    && last a.axis7 b.axis7 i)))))))))))))))))))
+
+-- the comparison of all numbers decides equality
+pub decided : (r : Bool) (a b : GlyphCacheKey) → r ≡ same_key a b → Decides r (a ≡ b)
+decided r a b e = (λ h. equal_keys a b (sym e ∙ h), λ h. e ∙ equal_same a b h)

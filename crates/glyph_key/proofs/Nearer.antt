@@ -1,12 +1,12 @@
 -- `to24` rounds to nearest, ties to even. Assumes nothing.
-use Rattle.std.proofs.Common.{◌≡◌, ℕ, suc, ◌+◌, ◌-◌, ◌*◌, ◌/◌, ◌%◌, ◌^◌, ◌<◌, ◌≤◌, not, T, eqb, ◌⊎◌, sym, refl, ap, ◌∙◌, subst, inl, inr, le_trans, mod-lt, suc-mul, add-mul, eq-zero-or-pos, one-mul, div-add-mod', zero-mul, arith, eqb→eq, leb→le, pow_pos}
+use Rattle.std.proofs.Common.{◌≡◌, ℕ, suc, ◌+◌, ◌-◌, ◌*◌, ◌/◌, ◌%◌, ◌^◌, ◌<◌, ◌≤◌, not, T, eqb, ◌⊎◌, sym, refl, subst, inl, inr, le_trans, mod-lt, suc-mul, eq-zero-or-pos, div-add-mod', arith, eqb→eq, leb→le, pow_pos}
 use Prim.Native.Nat.{compare, Ordering}
 use lib.Dec.{is_le, compare_is_eq, nleb→lt, eqb_refl}
 use lib.Arith.{lt_of_le-ne}
 use lib.Ieee.{size, nearest}
 use lib.Ieee.Fits.{kept-lt, nearest-le}
 use lib.Ieee.Nearest.{closest}
-use Rattle.glyph_key.specs.Bucket.{to24, Rounded, ToNearest}
+use Rattle.glyph_key.specs.Bucket.{to24, ToNearest}
 
 abbrev Cmp : Ordering → ℕ → ℕ → Type 0
 Cmp Ordering.lt a b = a < b

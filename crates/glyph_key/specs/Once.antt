@@ -2,7 +2,7 @@
 --     known ks k       a key of the list is the same as k
 --     with_key ks k    the list with k at its end, unless it is known
 --     repeats ks       a key of the list is the same as one after it
-use Rattle.std.specs.Prelude.{◌≡◌, Bool, false, cond, ◌||◌, List, [], ◌∷◌, ◌++◌}
+use Rattle.std.specs.Prelude.{Bool, false, cond, ◌||◌, List, [], ◌∷◌, ◌++◌}
 use Rattle.glyph_key.specs.declared.key.GlyphCacheKey.{GlyphCacheKey}
 use Rattle.glyph_key.specs.Keys.{same_key}
 

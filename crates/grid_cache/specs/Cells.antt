@@ -7,15 +7,15 @@
 --     size_fits c w h      w and h are 1 to c
 --     any_free ws          some cell is free
 --     fits_in c ws w h     both
---     cache_of_grid g         what the grid g means
+--     cache_of_grid g      what the grid g means
 --     Chosen g i           the cell i is the free one of highest number on the first page that has one
---     FirstRoom ws r      r is the first page with a free cell, or none where none has one
+--     FirstRoom ws r       r is the first page with a free cell, or none where none has one
 --     toggled ws i         the cell i is taken where it was free, free where it was taken; all others are as they were
---     InLimits c n        cells of side c and n pages are within the limits
+--     InLimits c n         cells of side c and n pages are within the limits
 --     Fresh c n g          g is a new grid of them, every cell free
 --     Opened c n r         the answer r to a call for such a grid
 --     word_of p n          the word of the page p in a new grid of n pages
-use Rattle.std.specs.Prelude.{◌≡◌, ℕ, ◌-◌, ◌*◌, ◌/◌, ◌%◌, ◌^◌, ◌<◌, ◌≤◌, Bool, true, false, cond, not, ◌&&◌, ◌||◌, List, [], ◌∷◌, length, set, Some, None, Ok, Err, Option, Result, ◌==◌, bit_xor, nat_le, nat_lt, slice_index, slice_index_or, slice_set}
+use Rattle.std.specs.Prelude.{◌≡◌, ℕ, ◌-◌, ◌*◌, ◌/◌, ◌%◌, ◌^◌, ◌<◌, ◌≤◌, Bool, true, false, cond, not, ◌&&◌, ◌||◌, List, [], ◌∷◌, length, Some, None, Ok, Err, Option, Result, ◌==◌, bit_xor, nat_le, nat_lt, slice_index, slice_index_or, slice_set}
 use Rattle.image_cache.specs.Faults.{cache_number}
 use Rattle.image_cache.specs.Caches.{Cache, Empty}
 use Rattle.image_cache.specs.declared.image.Image.{Image}

@@ -1,9 +1,9 @@
 -- Whether some cell is free, told by the words of the pages, and which is chosen.
-use Rattle.std.specs.Prelude.{◌≡◌, ℕ, zero, suc, ◌+◌, ◌*◌, ◌/◌, ◌%◌, ◌^◌, ◌<◌, ◌≤◌, Bool, true, false, not, ◌&&◌, ◌||◌, List, [], ◌∷◌, length, ◌==◌, nat_le, nat_lt, slice_index, slice_index_or, refl}
+use Rattle.std.specs.Prelude.{◌≡◌, ℕ, zero, suc, ◌+◌, ◌*◌, ◌/◌, ◌%◌, ◌^◌, ◌<◌, ◌≤◌, true, false, not, ◌&&◌, List, [], ◌∷◌, length, ◌==◌, nat_le, nat_lt, slice_index, slice_index_or, refl}
 use Rattle.std.proofs.Common.{ap, ◌∙◌, arith}
 use Rattle.std.proofs.lemmas.Bool.{eq-eqb, ne_eqb, or_from, or_left, or_right, and_parts, leb-true}
 use Rattle.grid_cache.specs.declared.grid.Grid.{Grid}
-use Rattle.grid_cache.specs.Cells.{bit, is_free, any_free, size_fits, fits_in, Chosen}
+use Rattle.grid_cache.specs.Cells.{bit, any_free, size_fits, fits_in, Chosen}
 use Rattle.grid_cache.specs.Bits.{highest, highest_set, highest_below, highest_above, zero_bit}
 
 pub none_free : (words : List ℕ) → ((k : ℕ) → k < length words → slice_index words k ≡ 0) → any_free words ≡ false

@@ -1,5 +1,5 @@
 -- One more picture at the end of a run. Assumes nothing.
-use Rattle.std.proofs.Common.{◌≡◌, List, [], ◌∷◌, ◌++◌, Result, sym, refl, subst}
+use Rattle.std.proofs.Common.{List, [], ◌∷◌, ◌++◌, Result, refl, subst}
 use Rattle.image_cache.specs.declared.image.Image.{Image}
 use Rattle.image_cache.specs.declared.fault.CacheFault.{CacheFault}
 use Rattle.image_cache.specs.Caches.{Cache}

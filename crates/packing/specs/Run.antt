@@ -1,5 +1,5 @@
 -- Several calls in a row. Assumes nothing.
---     PlacedAll c es rs d     pictures of these sizes were placed one after the other, with these answers, and the cache c became d
+--     PlacedAll c es rs d      pictures of these sizes were placed one after the other, with these answers, and the cache c became d
 use Rattle.std.specs.Prelude.{◌≡◌, List, [], ◌∷◌, Result}
 use Rattle.image_cache.specs.declared.image.Image.{Image}
 use Rattle.image_cache.specs.declared.fault.CacheFault.{CacheFault}

@@ -6,7 +6,7 @@
 --     Recorded p cs r q     the commands cs recorded for the page p, which has 120 places and is q after it
 --     filled ps             the pages that hold a command, in their order
 --     Offered takes ps t r u    the pages ps were offered one after the other to the target t, which is u after it; each but the last was accepted, and r is the last answer
---     UpTo failed ps qs    of the pages qs, those that were offered, ps: all; or, where one failed, none after it
+--     UpTo failed ps qs     of the pages qs, those that were offered, ps: all; or, where one failed, none after it
 --     Sends p m r n         a target that sends into a sink m, which is n after it
 --     Counts p k r l        a target that counts from k to l
 use Rattle.std.specs.Prelude.{◌≡◌, ℕ, ◌+◌, ◌-◌, ◌^◌, ◌<◌, ◌≤◌, min, Bool, true, false, not, ◌⊎◌, List, [], ◌∷◌, ◌++◌, map, length, Ok, Err, filter, Result}

@@ -1,5 +1,5 @@
 -- A picture made from a box covers it. Assumes nothing.
-use Rattle.std.proofs.Common.{◌≡◌, ℕ, ◌^◌, ◌<◌, Bool, true, false, cond, ◌&&◌, ℤ, pos, negsuc, ◌+ℤ◌, ◌-ℤ◌, ◌*ℤ◌, neg_ℤ, nat_abs, ◌≤ℤ◌, ◌<ℤ◌, IfErr, Ok, Err, Result, sym, refl, ap, ◌∙◌, subst, arith, pow_pos}
+use Rattle.std.proofs.Common.{◌≡◌, ℕ, ◌^◌, ◌<◌, Bool, true, false, cond, ◌&&◌, ℤ, pos, negsuc, ◌+ℤ◌, ◌-ℤ◌, ◌*ℤ◌, neg_ℤ, nat_abs, ◌≤ℤ◌, ◌<ℤ◌, IfErr, Ok, Err, Result, sym, refl, subst, arith, pow_pos}
 use Rattle.std.proofs.lemmas.Int.{ints}
 use Rattle.floats.specs.Units.{units_of, floor_by}
 use Rattle.floats.proofs.Numbers.{passes}

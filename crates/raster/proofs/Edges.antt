@@ -1,5 +1,5 @@
 -- The answer from four edges by its parts: each of the four numbers is there, or all is refused. Assumes nothing.
-use Rattle.std.proofs.Common.{◌≡◌, ℕ, Bool, true, false, cond, ◌&&◌, ℤ, ◌-ℤ◌, nat_abs, is_err, Ok, Err, Result, sym, refl, ◌∙◌}
+use Rattle.std.proofs.Common.{◌≡◌, ℕ, Bool, true, false, cond, ◌&&◌, ℤ, ◌-ℤ◌, nat_abs, is_err, Ok, Err, Result, refl}
 use Rattle.floats.proofs.Numbers.{passes}
 use Rattle.raster.specs.declared.glyph.RasterMetrics.{RasterMetrics}
 use Rattle.raster.specs.declared.fault.RasterFault.{RasterFault}

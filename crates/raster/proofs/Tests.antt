@@ -1,7 +1,7 @@
 -- The tests on a finite number by IEEE 754's comparisons are those on its units. Assumes nothing.
 use Rattle.std.proofs.Common.{◌≡◌, ◌&&◌, T, refl}
 use lib.Ieee.{Float, binary64, fits}
-use Rattle.std.specs.Float.{float_is_finite, float_with_sign}
+use Rattle.std.specs.Float.{float_is_finite}
 use Rattle.floats.specs.Units.{units_of}
 use Rattle.floats.proofs.Sizes as sizes
 use Rattle.raster.specs.Steps.{nearly_straight, nearly_unit}

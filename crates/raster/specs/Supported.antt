@@ -3,7 +3,7 @@
 --     unit_sized z     in size within 1 / 4096 of 1
 --     linear_finite t  the numbers a to d, which the test looks at, are finite
 --     supported g t    the transform t serves a glyph of the kind of g; none does whose a to d are not finite
-use Rattle.std.specs.Prelude.{ℕ, ◌+◌, ◌-◌, ◌^◌, Bool, not, ◌&&◌, ℤ, pos, int_lt, nat_le, unsigned_abs}
+use Rattle.std.specs.Prelude.{◌+◌, ◌-◌, ◌^◌, Bool, not, ◌&&◌, ℤ, pos, int_lt, nat_le, unsigned_abs}
 use Rattle.std.specs.Float.{float_is_finite, is_sign_negative}
 use Rattle.floats.specs.Units.{units_of}
 use Rattle.shapes.specs.declared.Affine.{Affine}

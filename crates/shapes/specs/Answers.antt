@@ -1,6 +1,6 @@
 -- What is said of the answer of any call. Assumes nothing.
 --     refused_with number r    the number of the refusal, if the answer r is one
---     KeepsRefused r x y      a call answered with r: where r is a refusal, what was x before the call is the same, y, after it
+--     KeepsRefused r x y       a call answered with r: where r is a refusal, what was x before the call is the same, y, after it
 --     none xs                  the list is empty
 use Rattle.std.specs.Prelude.{◌≡◌, ℕ, Bool, true, false, List, [], ◌∷◌, Some, None, Ok, Err, Option, Result}
 

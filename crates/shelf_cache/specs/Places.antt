@@ -7,10 +7,10 @@
 --     FitIn g w h p           p is where the image goes, by the rules above
 --     place_for g w h         that place, if there is one
 --     Finds g i r             r is the place of the image i, if there is one
---     cache_of_shelves g           what the shelves g mean as an image cache
+--     cache_of_shelves g      what the shelves g mean as an image cache
 --     PutAt g w h i d         an image of w by h stands where it goes, and no other shelf changes: g before, d after
 --     LeftBy g i d            the shelf that the image i left, and all others: g before, d after
---     InLimits width height count   the sides of a page and the number of pages are within the limits
+--     InLimits width height count    the sides of a page and the number of pages are within the limits
 --     Fresh width height count g     g are new shelves on pages of those sizes
 --     Opened width height count r    the answer r to a call for such shelves
 use Rattle.std.specs.Prelude.{◌≡◌, ℕ, zero, suc, ◌+◌, ◌-◌, ◌*◌, ◌/◌, ◌%◌, ◌<◌, ◌≤◌, Bool, true, false, cond, ◌&&◌, ◌⊎◌, List, is_some, Some, None, Ok, Err, Option, Result, ◌==◌, ◌≢◌, nat_le, nat_lt, slice_set}

@@ -1,5 +1,5 @@
 -- What holds of the format for every call. Assumes nothing.
---     ReadsBack      the records of calls, one after the other, read back as these calls: so no two lists of calls have the same bytes
+--     ReadsBack       the records of calls, one after the other, read back as these calls: so no two lists of calls have the same bytes
 --     Short           no record is longer than 52 bytes, so a buffer with 52 bytes left has a place for any call
 use Rattle.std.specs.Prelude.{◌≡◌, ◌≤◌, List, [], ◌∷◌, length}
 use Rattle.interface.specs.declared.call.Call.{Call}

@@ -2,7 +2,7 @@
 --     written w        the bytes that the writer has written
 --     Wrote bs v w     the writer v has written the bs more, and is w: nothing before them differs, and the buffer is as long as it was
 --     Room n w         the writer has room for n bytes more
---     FitsCall c      every number of the call c is one of its type: a float of its format, a handle of 32 bits
+--     FitsCall c       every number of the call c is one of its type: a float of its format, a handle of 32 bits
 use Rattle.std.specs.Prelude.{◌≡◌, ℕ, ◌+◌, ◌^◌, ◌<◌, ◌≤◌, T, List, ◌++◌, length, take, Some, None, Option}
 use Rattle.std.specs.Float.{binary32, binary64}
 use Rattle.std.specs.Float.Ieee.{fits}

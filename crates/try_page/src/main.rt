@@ -26,6 +26,7 @@ use grid_cache::grid::Grid;
 use image_cache::fault::CacheFault;
 use shelf_cache::shelves::Shelves;
 use std::fs::File;
+use std::process::ExitCode;
 use std::{env, fs, io};
 
 fn open(rt: &HostRuntime, path: String) -> Result<File, Failure> {
@@ -75,10 +76,12 @@ fn run(rt: &HostRuntime) -> Result<(), Failure> {
     Ok(())
 }
 
-fn main(rt: HostRuntime) -> Result<(), Failure> {
-    let done = run(&rt);
-    if let Err(failure) = &done {
-        let _ = eprintln!(rt; "try_page: {failure}");
+fn main(rt: HostRuntime) -> ExitCode {
+    match run(&rt) {
+        Ok(()) => ExitCode::SUCCESS,
+        Err(failure) => {
+            let _ = eprintln!(rt; "try_page: {failure}");
+            ExitCode::FAILURE
+        }
     }
-    done
 }

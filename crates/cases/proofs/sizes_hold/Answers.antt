@@ -1,5 +1,5 @@
 -- By computation.
-use Rattle.std.proofs.Common.{◌≡◌, ◌&&◌, Ok, Result, sym, refl, ap, ◌∙◌}
+use Rattle.std.proofs.Common.{◌&&◌, Ok, Result, sym, refl, ap, ◌∙◌}
 use lib.Ieee.{of_bits, neg, mul, size}
 use Rattle.std.specs.Float.{float_is_finite}
 use Rattle.shapes.specs.Answers.{refused_with}

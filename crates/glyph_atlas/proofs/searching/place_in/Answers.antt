@@ -1,5 +1,5 @@
 -- The first entry with the key, or none.
-use Rattle.std.proofs.Common.{sym, ◌∙◌}
+use Rattle.std.proofs.Common.{sym}
 use Rattle.glyph_atlas.proofs.Lookups.{held_at, lookup_more, lookup_all}
 use Rattle.glyph_atlas.proofs.searching.place_in.Goals as goal
 

@@ -1,5 +1,5 @@
 -- The table with one entry more is as every table is.
-use Rattle.std.proofs.Common.{◌≡◌, vec_items, filter, ap, ◌∙◌, arith}
+use Rattle.std.proofs.Common.{vec_items, filter, ap, ◌∙◌, arith}
 use Rattle.glyph_key.specs.Once.{repeats}
 use Rattle.glyph_atlas.specs.Shape.{keys_of, oversized}
 use Rattle.glyph_atlas.proofs.Invariants.{once_more, sized_more}
@@ -9,16 +9,10 @@ pub invariant_of-self : goal.invariant_of-self
 invariant_of-self c =
     let t = c.args.self.now in
     let es = vec_items t.entries in
-    let n = t.entries.ok.0 in (
-      omega arith,
-      (
-        omega arith,
-        (
-          ap (λ xs. repeats (keys_of xs)) c.put_last.ensures.items ∙ once_more es c.args.entry t.once c.requires.new,
-          (
-            ap (filter oversized) c.put_last.ensures.items ∙ sized_more es c.args.entry t.sized c.requires.narrow c.requires.low,
-            tt,
-          ),
-        ),
-      ),
-    )
+    let n = t.entries.ok.0 in
+    record {
+      small = omega arith;
+      room = omega arith;
+      once = ap (λ xs. repeats (keys_of xs)) c.put_last.ensures.items ∙ once_more es c.args.entry t.once c.requires.new;
+      sized = ap (filter oversized) c.put_last.ensures.items ∙ sized_more es c.args.entry t.sized c.requires.narrow c.requires.low;
+    }

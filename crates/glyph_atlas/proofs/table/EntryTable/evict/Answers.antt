@@ -20,19 +20,13 @@ invariant_of-self g c =
     let p = unaged c.args.tick c.args.age in
     let ws = c.sweep-staying.new.entries in
     let l : length ws ≡ t.entries.len = search rules in
-    let k = left_over t.entries p ws c.sweep-staying.result l c.as_mut_slice.ensures.value c.sweep-staying.ensures.stay c.truncate.ensures.items in (
-      omega arith,
-      (
-        omega arith,
-        (
-          ap (λ es. repeats (keys_of es)) k ∙ once_less p (vec_items t.entries) t.once,
-          (
-            ap (filter oversized) k ∙ sized_less oversized p (vec_items t.entries) t.sized,
-            tt,
-          ),
-        ),
-      ),
-    )
+    let k = left_over t.entries p ws c.sweep-staying.result l c.as_mut_slice.ensures.value c.sweep-staying.ensures.stay c.truncate.ensures.items in
+    record {
+      small = omega arith;
+      room = omega arith;
+      once = ap (λ es. repeats (keys_of es)) k ∙ once_less p (vec_items t.entries) t.once;
+      sized = ap (filter oversized) k ∙ sized_less oversized p (vec_items t.entries) t.sized;
+    }
 
 pub returns : goal.returns
 returns g c =

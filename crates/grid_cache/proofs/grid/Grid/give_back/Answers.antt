@@ -1,5 +1,5 @@
 -- The cell that is turned holds no image any more.
-use Rattle.std.proofs.Common.{◌≡◌, ℕ, ◌/◌, ◌<◌, List, length, sym, subst, rules}
+use Rattle.std.proofs.Common.{ℕ, ◌/◌, ◌<◌, List, length, sym, subst, rules}
 use Rattle.image_cache.specs.Caches.{Removed}
 use Rattle.grid_cache.specs.Cells.{cache_of}
 use Rattle.grid_cache.proofs.Turning.{removed_is}

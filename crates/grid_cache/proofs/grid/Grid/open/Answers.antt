@@ -12,28 +12,16 @@ invariant_of-result c =
     let e : ◌≡◌ {A = List ℕ} (c.new_word.result ∷ c.new_word-2.result ∷ c.new_word-3.result ∷ c.new_word-4.result ∷ []) (words_of c.args.count) = cc in
     let P : List ℕ → Type 0 = λ ws. (p : ℕ) → c.args.count ≤ p → get_or ws p 0 ≡ 0 in
     let W : Size → Type 0 = λ z. z.w ≤ c.args.cell in
-    let H : Size → Type 0 = λ z. z.h ≤ c.args.cell in (
-      c.requires.large,
-      (
-        c.requires.small,
-        (
-          c.requires.some,
-          (
-            c.requires.few,
-            (
-              subst P (sym e) (new_idle c.args.count c.requires.few),
-              (
-                (λ k. subst W (sym (no_sizes 256 k)) (omega arith)),
-                (
-                  (λ k. subst H (sym (no_sizes 256 k)) (omega arith)),
-                  tt,
-                ),
-              ),
-            ),
-          ),
-        ),
-      ),
-    )
+    let H : Size → Type 0 = λ z. z.h ≤ c.args.cell in
+    record {
+      large = c.requires.large;
+      small = c.requires.small;
+      some = c.requires.some;
+      few = c.requires.few;
+      idle = subst P (sym e) (new_idle c.args.count c.requires.few);
+      narrow = λ k. subst W (sym (no_sizes 256 k)) (omega arith);
+      low = λ k. subst H (sym (no_sizes 256 k)) (omega arith);
+    }
 
 pub returns : goal.returns
 returns c =

@@ -13,28 +13,16 @@ invariant_of-self c =
     let i = c.args.id in
     let s : Size = record { w = c.args.w; h = c.args.h } in
     let q : i / 64 < g.count = omega (arith, c.requires.chosen.there) in
-    let P : List ℕ → Type 0 = λ ws. (p : ℕ) → g.count ≤ p → get_or ws p 0 ≡ 0 in (
-      g.large,
-      (
-        g.small,
-        (
-          g.some,
-          (
-            g.few,
-            (
-              subst P (sym c.turn.ensures) (still_idle g.count g.free (i / 64) _ q g.idle),
-              (
-                still_within (λ (z : Size). z.w) g.cell g.sizes i s (fits_wide g.cell c.args.w c.args.h g.free c.requires.fits) g.narrow,
-                (
-                  still_within (λ (z : Size). z.h) g.cell g.sizes i s (fits_high g.cell c.args.w c.args.h g.free c.requires.fits) g.low,
-                  tt,
-                ),
-              ),
-            ),
-          ),
-        ),
-      ),
-    )
+    let P : List ℕ → Type 0 = λ ws. (p : ℕ) → g.count ≤ p → get_or ws p 0 ≡ 0 in
+    record {
+      large = g.large;
+      small = g.small;
+      some = g.some;
+      few = g.few;
+      idle = subst P (sym c.turn.ensures) (still_idle g.count g.free (i / 64) _ q g.idle);
+      narrow = still_within (λ (z : Size). z.w) g.cell g.sizes i s (fits_wide g.cell c.args.w c.args.h g.free c.requires.fits) g.narrow;
+      low = still_within (λ (z : Size). z.h) g.cell g.sizes i s (fits_high g.cell c.args.w c.args.h g.free c.requires.fits) g.low;
+    }
 
 pub returns : goal.returns
 returns c =

@@ -7,8 +7,8 @@ use Rattle.shelf_cache.specs.Placing.{admitted, place_both, place_old, fit_old, 
 use Rattle.shelf_cache.specs.Rooms.{opens_is}
 use Rattle.shelf_cache.proofs.shelves.Shelves.place.Goals as goal
 
-pub overflow-cast-top : goal.overflow-cast-top
-overflow-cast-top c =
+pub overflow_cast-top : goal.overflow_cast-top
+overflow_cast-top c =
     let g = c.args.self.now in
     let o = opens_is g.count g.height c.args.h g.shelves g.standing c.in-New.at c.in-New.ensures.1.1 in
     Fits-below {n = 65535} tt (omega (arith, o.left, c.end_of-top.ensures, g.high))

@@ -1,7 +1,6 @@
 -- With the image gone and the empty lowest shelves with it, all is sound, and one image less is live.
 use Rattle.std.proofs.Common.{rules}
 use Rattle.shelf_cache.proofs.Leaving.{counted_here, left}
-use Rattle.shelf_cache.specs.Whole.{parts}
 use Rattle.shelf_cache.proofs.shelves.Shelves.remove.Goals as goal
 
 pub without_image-shelf-requires : goal.without_image-shelf-requires
@@ -9,8 +8,30 @@ without_image-shelf-requires c = counted_here c.args.self.now c.args.id c.args.k
 
 pub invariant_of-self : goal.invariant_of-self
 invariant_of-self c =
-    (let all = parts _ _ _ _ _ _ _ (left c.args.self.now c.args.id c.args.k (search rules) (search rules) c.requires.live c.requires.named (search rules)
-    c.retire.new.spots c.retire.ensures c.without_image-shelf.result c.without_image-shelf.ensures c.left_standing.result c.left_standing.ensures).sound in (all.0, all.1))
+    let l = left c.args.self.now c.args.id c.args.k (search rules) (search rules) c.requires.live c.requires.named (search rules)
+    c.retire.new.spots c.retire.ensures c.without_image-shelf.result c.without_image-shelf.ensures c.left_standing.result c.left_standing.ensures in
+    let S = l.sound in
+    record {
+      wide = S.wide;
+      high = S.high;
+      pages = S.pages;
+      paged = S.paged;
+      sixteen = S.sixteen;
+      inside = S.inside;
+      inner = S.inner;
+      stacked = S.stacked;
+      few = S.few;
+      sized = S.sized;
+      placed = S.placed;
+      stood = S.stood;
+      upright = S.upright;
+      beside = S.beside;
+      reset = S.reset;
+      counted = S.counted;
+      lowest = S.lowest;
+      small = S.small;
+      single = S.single;
+    }
 
 pub returns : goal.returns
 returns c =

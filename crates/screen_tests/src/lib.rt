@@ -2,7 +2,7 @@
 #![tactic(auto)]
 
 #[cfg(test)]
-mod lists;
+mod filled;
 #[cfg(test)]
 mod states;
 #[cfg(test)]

@@ -12,6 +12,7 @@ use raster::fault::RasterFault;
 use raster::glyph::{Glyph, GlyphOutline, RasterMetrics};
 use raster::metrics::calculate_raster_metrics;
 use raster::transform::supports_atlas_caching;
+use shapes::refusal::Refusal;
 use shapes::{Affine, Path, Rect};
 
 mod cells;

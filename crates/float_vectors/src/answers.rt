@@ -10,6 +10,7 @@ use raster::fault::RasterFault;
 use raster::glyph::{Glyph, RasterMetrics};
 use raster::metrics::calculate_raster_metrics;
 use raster::transform::supports_atlas_caching;
+use shapes::refusal::Refusal;
 use std::fmt;
 
 #[derive(Clone, Copy)]

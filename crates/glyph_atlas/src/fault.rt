@@ -5,6 +5,7 @@ ghost use Rattle.glyph_atlas.specs.Faults.{atlas_number};
 
 use image_cache::fault::CacheFault;
 use raster::fault::RasterFault;
+use shapes::refusal::Refusal;
 use std::fmt;
 use std::fmt::Display;
 
@@ -20,10 +21,10 @@ pub enum AtlasFault {
     Cache(CacheFault),
 }
 
-impl AtlasFault {
-    pub fn number(self) -> u8
-        ensures { result ≡ atlas_number self }
-    {
+impl Refusal for AtlasFault {
+    ghost numbered = { atlas_number };
+
+    fn number(self) -> u8 {
         match self {
             AtlasFault::Raster(fault) => fault.number(),
             AtlasFault::KeyHeld => 6,

@@ -1,7 +1,7 @@
 // Why there is no key, by number and in words.
-ghost use Rattle.std.specs.Prelude.{◌≡◌};
 ghost use Rattle.glyph_key.specs.Faults.{key_number};
 
+use shapes::refusal::Refusal;
 use std::fmt;
 
 #[derive(Clone, Copy, PartialEq, Eq)]
@@ -10,10 +10,10 @@ pub enum KeyFault {
     NotANumber,
 }
 
-impl KeyFault {
-    pub fn number(self) -> u8
-        ensures { result ≡ key_number self }
-    {
+impl Refusal for KeyFault {
+    ghost numbered = { key_number };
+
+    fn number(self) -> u8 {
         match self {
             KeyFault::TooManyAxes => 2,
             KeyFault::NotANumber => 3,

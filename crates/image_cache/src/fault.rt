@@ -1,7 +1,7 @@
 // Why a cache refuses, by number and in words.
-ghost use Rattle.std.specs.Prelude.{◌≡◌};
 ghost use Rattle.image_cache.specs.Faults.{cache_number};
 
+use shapes::refusal::Refusal;
 use std::fmt;
 
 #[derive(Clone, Copy, PartialEq, Eq)]
@@ -11,10 +11,10 @@ pub enum CacheFault {
     NoFit,
 }
 
-impl CacheFault {
-    pub fn number(self) -> u8
-        ensures { result ≡ cache_number self }
-    {
+impl Refusal for CacheFault {
+    ghost numbered = { cache_number };
+
+    fn number(self) -> u8 {
         match self {
             CacheFault::NotLive => 9,
             CacheFault::Sizes => 11,

@@ -1,7 +1,7 @@
 // Why a sink or a screen refuses, by number and in words.
-ghost use Rattle.std.specs.Prelude.{◌≡◌};
 ghost use Rattle.interface.specs.Faults.{sink_number};
 
+use shapes::refusal::Refusal;
 use std::fmt;
 
 #[derive(Clone, Copy, PartialEq, Eq)]
@@ -10,10 +10,10 @@ pub enum SinkFault {
     NoPlace,
 }
 
-impl SinkFault {
-    pub fn number(self) -> u8
-        ensures { result ≡ sink_number self }
-    {
+impl Refusal for SinkFault {
+    ghost numbered = { sink_number };
+
+    fn number(self) -> u8 {
         match self {
             SinkFault::NotLatest => 10,
             SinkFault::NoPlace => 15,

@@ -1,7 +1,7 @@
 // Why a glyph has no picture of its own, by number and in words.
-ghost use Rattle.std.specs.Prelude.{◌≡◌};
 ghost use Rattle.raster.specs.Faults.{raster_number};
 
+use shapes::refusal::Refusal;
 use std::fmt;
 
 #[derive(Clone, Copy, PartialEq, Eq)]
@@ -9,10 +9,10 @@ pub enum RasterFault {
     Metrics,
 }
 
-impl RasterFault {
-    pub fn number(self) -> u8
-        ensures { result ≡ raster_number self }
-    {
+impl Refusal for RasterFault {
+    ghost numbered = { raster_number };
+
+    fn number(self) -> u8 {
         match self {
             RasterFault::Metrics => 5,
         }

@@ -3,6 +3,7 @@
 use interface::sink::{DrawSink, GlyphRenderer};
 use interface::state::RestoreRefused;
 use list_screen::screen::ListScreen;
+use shapes::refusal::Refusal;
 use std::test::Fail;
 
 // Saves on the first screen, and gives the state to the second: the number with which that is refused, if it is.

@@ -3,6 +3,7 @@ use interface::sink::DrawSink;
 use pages::recorder::AtlasCommandRecorder;
 use pages::target::PageTarget;
 use pages::targets::{CommandCounter, SinkTarget};
+use shapes::refusal::Refusal;
 use std::test::Fail;
 
 #[test]

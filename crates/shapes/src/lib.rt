@@ -6,6 +6,8 @@ ghost use Rattle.shapes.specs.Numbers.{finite_affine, finite_rect, finite_path, 
 
 use std::num::f32_from_bits_with_nan;
 
+pub mod refusal;
+
 // Takes (x, y) to (ax + cy + e, bx + dy + f).
 #[derive(Clone, Copy)]
 pub struct Affine {

@@ -25,6 +25,7 @@ use crate::picture::Picture;
 use grid_cache::grid::Grid;
 use image_cache::fault::CacheFault;
 use shelf_cache::shelves::Shelves;
+use shapes::refusal::Refusal;
 use std::fs::File;
 use std::process::ExitCode;
 use std::{env, fs, io};

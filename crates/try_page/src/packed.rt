@@ -5,6 +5,7 @@ use image_cache::cache::ImageCache;
 use image_cache::fault::CacheFault;
 use image_cache::image::Image;
 use packing::place::{Extent, place, place_all};
+use shapes::refusal::Refusal;
 use std::alloc::{AllocError, Global};
 use std::io;
 

@@ -2,6 +2,7 @@
 use crate::field::Kind;
 use crate::verdict::{LetterFault, Verdict};
 use glyph_key::key::{GlyphCacheKey, Join};
+use shapes::refusal::Refusal;
 use std::fmt;
 
 #[derive(Drop)]

@@ -9,6 +9,7 @@ use glyph_key::fault::KeyFault;
 use glyph_key::key::GlyphCacheKey;
 use raster::fault::RasterFault;
 use raster::glyph::RasterMetrics;
+use shapes::refusal::Refusal;
 use std::alloc::{AllocError, Global};
 use std::fmt;
 

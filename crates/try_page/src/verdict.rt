@@ -13,6 +13,7 @@ use raster::fault::RasterFault;
 use raster::glyph::{Glyph, RasterMetrics};
 use raster::metrics::calculate_raster_metrics;
 use raster::transform::supports_atlas_caching;
+use shapes::refusal::Refusal;
 use std::fmt;
 
 // A letter that is drawn plainly needs no slot, so that its metrics are not asked for.
@@ -29,10 +30,10 @@ pub enum LetterFault {
     Raster(RasterFault),
 }
 
-impl LetterFault {
-    pub fn number(self) -> u8
-        ensures { result ≡ fault_number self }
-    {
+impl Refusal for LetterFault {
+    ghost numbered = { fault_number };
+
+    fn number(self) -> u8 {
         match self {
             LetterFault::NotFinite => 1,
             LetterFault::Key(fault) => fault.number(),

@@ -4,7 +4,7 @@ ghost use Rattle.shapes.specs.Answers.{KeepsRefused};
 ghost use Rattle.image_cache.specs.Caches.{Cache, Lawful, Allocated, Freed};
 
 use crate::fault::CacheFault;
-use crate::image::Image;
+use crate::image::{Image, Size};
 
 pub trait ImageCache {
     ghost meaning: { Self → Cache };
@@ -25,12 +25,12 @@ pub trait ImageCache {
         ensures { result ≡ (meaning self.now).largest_height };
 
     // Whether an image of that size finds a place now.
-    fn fits(&self, w: u16, h: u16) -> bool
-        ensures { result ≡ (meaning self.now).fits w h };
+    fn fits(&self, size: Size) -> bool
+        ensures { result ≡ (meaning self.now).fits size.w size.h };
 
     // A place for an image of that size, under a new id; refused with 14 exactly where it does not fit.
-    fn allocate(&mut self, w: u16, h: u16) -> Result<u32, CacheFault>
-        ensures allocates { Allocated (meaning self.old) w h result (meaning self.new) }
+    fn allocate(&mut self, size: Size) -> Result<u32, CacheFault>
+        ensures allocates { Allocated (meaning self.old) size.w size.h result (meaning self.new) }
         ensures keeps { KeepsRefused result self.old self.new };
 
     // The live image of that id.

@@ -1,14 +1,11 @@
 // The worked cases of keys, transforms, metrics, lists and cells: as one statement on the definitions, and run by the code.
 #![tactic(auto)]
 
-ghost use Rattle.std.specs.Prelude.{◌≡◌, true, Some, Ok};
-ghost use Rattle.shapes.specs.Answers.{refused_with};
-ghost use Rattle.raster.specs.Faults.{raster_number};
+ghost use Rattle.std.specs.Prelude.{◌≡◌, true};
 ghost use Rattle.cases.specs.Cases.{Buckets, Transforms, Sizes, Cases, outline};
 
 use crate::cells::cells_hold;
 use glyph_key::bucket::quantize_subpixel;
-use raster::fault::RasterFault;
 use raster::glyph::{Glyph, GlyphOutline, RasterMetrics};
 use raster::metrics::calculate_raster_metrics;
 use raster::transform::supports_atlas_caching;
@@ -21,11 +18,10 @@ fn buckets_hold() -> bool
     ensures cases { Buckets }
     ensures run { result ≡ true }
 {
-    let nan = 0.0 / 0.0;
     (quantize_subpixel(0.125) == 1)
         & (quantize_subpixel(0.875) == 3)
         & (quantize_subpixel(-0.25) == 3)
-        & (quantize_subpixel(nan) == 0)
+        & (quantize_subpixel(f32::NAN) == 0)
         & (quantize_subpixel(-0.37500003) == 3)
 }
 
@@ -43,12 +39,9 @@ fn transforms_hold() -> bool
     ensures run { result ≡ true }
 {
     let skewed = Affine {
-        a: 1.0,
         b: 0.000244140625,
-        c: 0.0,
         d: -1.0,
-        e: 0.0,
-        f: 0.0,
+        ..Affine::IDENTITY
     };
     supports_atlas_caching(skewed, outline(0.5, -2.0, 6.25, 7.5))
 }
@@ -64,29 +57,6 @@ fn metrics(width: u16, height: u16, left: i16, top: i16) -> RasterMetrics
     }
 }
 
-fn is_metrics(answer: Result<RasterMetrics, RasterFault>, expected: RasterMetrics) -> bool
-    ensures { answer ≡ Ok expected → result ≡ true }
-{
-    match answer {
-        Ok(m) => {
-            (m.width == expected.width)
-                & (m.height == expected.height)
-                & (m.left == expected.left)
-                & (m.top == expected.top)
-        }
-        Err(_) => false,
-    }
-}
-
-fn is_refused(answer: Result<RasterMetrics, RasterFault>, number: u8) -> bool
-    ensures { refused_with raster_number answer ≡ Some number → result ≡ true }
-{
-    match answer {
-        Ok(_) => false,
-        Err(fault) => fault.number() == number,
-    }
-}
-
 // A letter, and the widest picture that there can be and one pixel more.
 fn sizes_hold() -> bool
     ensures cases { Sizes }
@@ -95,9 +65,9 @@ fn sizes_hold() -> bool
     let letter = calculate_raster_metrics(outline(0.5, -2.0, 6.25, 7.5));
     let widest = calculate_raster_metrics(outline(0.0, 0.0, 65532.0, 1.0));
     let wider = calculate_raster_metrics(outline(0.0, 0.0, 65533.0, 1.0));
-    is_metrics(letter, metrics(8, 10, 0, -8))
-        & is_metrics(widest, metrics(65533, 1, 0, -1))
-        & is_refused(wider, 5)
+    letter == Ok(metrics(8, 10, 0, -8))
+        && widest == Ok(metrics(65533, 1, 0, -1))
+        && wider.is_err_and(|fault| fault.number() == 5)
 }
 
 // The cases of the definitions, and that the code gives them.
@@ -105,5 +75,5 @@ pub fn cases_hold() -> bool
     ensures cases { Cases }
     ensures run { result ≡ true }
 {
-    buckets_hold() & transforms_hold() & sizes_hold() & cells_hold()
+    buckets_hold() && transforms_hold() && sizes_hold() && cells_hold()
 }

@@ -1,11 +1,10 @@
 // A glyph onto a screen from its picture on a page of the atlas.
 ghost use Rattle.std.specs.Prelude.{◌≤◌};
 ghost use Rattle.shapes.specs.Answers.{KeepsRefused};
-ghost use Rattle.interface.specs.Sinks.{Extended};
 ghost use Rattle.drawing.specs.Shown.{Shown, from_atlas};
 ghost use Rattle.drawing.specs.Between.{Steps, picture_calls};
 
-use crate::room::check_room;
+use crate::enclosed::enclosed;
 use interface::fault::SinkFault;
 use interface::region::AtlasSlot;
 use interface::sink::GlyphRenderer;
@@ -36,28 +35,17 @@ impl FromAtlas {
         screen.set_tint(None).unwrap();
     }
 
-    // The screen is asked about the slot before its state is saved.
-    fn send<S: GlyphRenderer>(self, screen: &mut S)
-        requires { 8 ≤ (S.DrawSink.means screen.old).free }
-        ensures { Extended (S.DrawSink.means screen.old) (from_atlas (S.DrawSink.means screen.old) self.slot self.transform self.area self.quality self.tint) (S.DrawSink.means screen.new) }
+    // Shows the slot; refused where fewer than eight places are free, and then nothing is sent. The screen is asked about the slot before its
+    // state is saved.
+    pub fn show<S: GlyphRenderer>(self, screen: &mut S) -> Result<(), SinkFault>
+        ensures shows { Shown (S.DrawSink.means screen.old) (from_atlas (S.DrawSink.means screen.old) self.slot self.transform self.area self.quality self.tint) result (S.DrawSink.means screen.new) }
+        ensures keeps { KeepsRefused result screen.old screen.new }
     {
         let picture = PaintImage {
             source: screen.atlas_image_source(self.slot),
             quality: self.quality,
         };
         let place = screen.atlas_paint_transform(self.slot);
-        let state = screen.save_state().unwrap();
-        self.send_picture(screen, picture, place);
-        screen.restore_state(state).unwrap();
-    }
-
-    // Shows the slot; refused where fewer than eight places are free, and then nothing is sent.
-    pub fn show<S: GlyphRenderer>(self, screen: &mut S) -> Result<(), SinkFault>
-        ensures shows { Shown (S.DrawSink.means screen.old) (from_atlas (S.DrawSink.means screen.old) self.slot self.transform self.area self.quality self.tint) result (S.DrawSink.means screen.new) }
-        ensures keeps { KeepsRefused result screen.old screen.new }
-    {
-        check_room(screen)?;
-        self.send(screen);
-        Ok(())
+        enclosed(screen, |screen| self.send_picture(screen, picture, place))
     }
 }

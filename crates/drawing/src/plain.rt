@@ -1,11 +1,10 @@
 // A glyph onto a screen without a picture on a page.
 ghost use Rattle.std.specs.Prelude.{◌≡◌, ◌≤◌, [], ◌∷◌};
 ghost use Rattle.shapes.specs.Answers.{KeepsRefused};
-ghost use Rattle.interface.specs.Sinks.{Extended};
 ghost use Rattle.drawing.specs.Shown.{Shown, show_plain, scaled, path_call};
 ghost use Rattle.drawing.specs.Between.{Steps, outline_calls, bitmap_calls, plain_calls};
 
-use crate::room::check_room;
+use crate::enclosed::enclosed;
 use crate::style::Style;
 use interface::fault::SinkFault;
 use interface::sink::GlyphRenderer;
@@ -79,22 +78,11 @@ impl Plain {
         }
     }
 
-    fn send<S: GlyphRenderer>(self, screen: &mut S)
-        requires { 8 ≤ (S.DrawSink.means screen.old).free }
-        ensures { Extended (S.DrawSink.means screen.old) (show_plain self.glyph self.style self.transform self.paint_transform) (S.DrawSink.means screen.new) }
-    {
-        let state = screen.save_state().unwrap();
-        self.send_glyph(screen);
-        screen.restore_state(state).unwrap();
-    }
-
     // Shows the glyph; refused where fewer than eight places are free, and then nothing is sent.
     pub fn show<S: GlyphRenderer>(self, screen: &mut S) -> Result<(), SinkFault>
         ensures shows { Shown (S.DrawSink.means screen.old) (show_plain self.glyph self.style self.transform self.paint_transform) result (S.DrawSink.means screen.new) }
         ensures keeps { KeepsRefused result screen.old screen.new }
     {
-        check_room(screen)?;
-        self.send(screen);
-        Ok(())
+        enclosed(screen, |screen| self.send_glyph(screen))
     }
 }

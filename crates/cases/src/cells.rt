@@ -4,7 +4,6 @@ ghost use Rattle.cases.specs.Cells.{Lists, Cells};
 
 use grid_cache::grid::Grid;
 use image_cache::cache::ImageCache;
-use image_cache::image::Image;
 
 // With cells of ten pixels, the first image of a new grid goes to the last cell of the first page, at (70, 70).
 pub(crate) fn cells_hold() -> bool
@@ -18,6 +17,8 @@ pub(crate) fn cells_hold() -> bool
     let Ok(id) = grid.allocate(10, 1) else {
         return false;
     };
-    grid.get(id)
-        .is_some_and(|image| (image.page, image.x, image.y) == (0, 70, 70))
+    let Some(image) = grid.get(id) else {
+        return false;
+    };
+    (image.page, image.x, image.y) == (0, 70, 70)
 }

@@ -1,11 +1,14 @@
 // The worked cases of keys, transforms, metrics, lists and cells: as one statement on the definitions, and run by the code.
 #![tactic(auto)]
 
-ghost use Rattle.std.specs.Prelude.{◌≡◌, true};
+ghost use Rattle.std.specs.Prelude.{◌≡◌, true, Some, Ok};
+ghost use Rattle.shapes.specs.Answers.{refused_with};
+ghost use Rattle.raster.specs.Faults.{raster_number};
 ghost use Rattle.cases.specs.Cases.{Buckets, Transforms, Sizes, Cases, outline};
 
 use crate::cells::cells_hold;
 use glyph_key::bucket::quantize_subpixel;
+use raster::fault::RasterFault;
 use raster::glyph::{Glyph, GlyphOutline, RasterMetrics};
 use raster::metrics::calculate_raster_metrics;
 use raster::transform::supports_atlas_caching;
@@ -57,6 +60,18 @@ fn metrics(width: u16, height: u16, left: i16, top: i16) -> RasterMetrics
     }
 }
 
+fn is_metrics(answer: Result<RasterMetrics, RasterFault>, expected: RasterMetrics) -> bool
+    ensures { answer ≡ Ok expected → result ≡ true }
+{
+    answer == Ok(expected)
+}
+
+fn is_refused(answer: Result<RasterMetrics, RasterFault>, number: u8) -> bool
+    ensures { refused_with raster_number answer ≡ Some number → result ≡ true }
+{
+    answer.is_err_and(|fault| fault.number() == number)
+}
+
 // A letter, and the widest picture that there can be and one pixel more.
 fn sizes_hold() -> bool
     ensures cases { Sizes }
@@ -65,9 +80,9 @@ fn sizes_hold() -> bool
     let letter = calculate_raster_metrics(outline(0.5, -2.0, 6.25, 7.5));
     let widest = calculate_raster_metrics(outline(0.0, 0.0, 65532.0, 1.0));
     let wider = calculate_raster_metrics(outline(0.0, 0.0, 65533.0, 1.0));
-    letter == Ok(metrics(8, 10, 0, -8))
-        && widest == Ok(metrics(65533, 1, 0, -1))
-        && wider.is_err_and(|fault| fault.number() == 5)
+    is_metrics(letter, metrics(8, 10, 0, -8))
+        && is_metrics(widest, metrics(65533, 1, 0, -1))
+        && is_refused(wider, 5)
 }
 
 // The cases of the definitions, and that the code gives them.

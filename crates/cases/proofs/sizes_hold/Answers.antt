@@ -30,9 +30,9 @@ unfolding of_bits neg mul float_is_finite size
 returns-else-is_metrics-2 c =
     let letter = c.is_metrics.ensures (c.calculate_raster_metrics-letter.ensures.answer ∙ ap metrics_of c.outline.ensures ∙ ap is_ok (sym c.metrics.ensures)) in
     let run : c.if-is_metrics.value ≡ true =
-        elim c.if-is_metrics.branch [
-          | then-is_metrics w ↦
-              w.value-is ∙ w.is_metrics-then-is_metrics.ensures (c.calculate_raster_metrics-widest.ensures.answer ∙ ap metrics_of c.outline-2.ensures ∙ ap is_ok (sym w.metrics-then-is_metrics.ensures))
-          | else-is_metrics w ↦ w.value-is ∙ letter
-        ] in
+    elim c.if-is_metrics.branch [
+      | then-is_metrics w ↦
+          w.value-is ∙ w.is_metrics-then-is_metrics.ensures (c.calculate_raster_metrics-widest.ensures.answer ∙ ap metrics_of c.outline-2.ensures ∙ ap is_ok (sym w.metrics-then-is_metrics.ensures))
+      | else-is_metrics w ↦ w.value-is ∙ letter
+    ] in
     record { cases = sizes; run = run }

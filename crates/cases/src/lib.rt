@@ -21,11 +21,13 @@ fn buckets_hold() -> bool
     ensures cases { Buckets }
     ensures run { result ≡ true }
 {
-    (quantize_subpixel(0.125) == 1)
-        & (quantize_subpixel(0.875) == 3)
-        & (quantize_subpixel(-0.25) == 3)
-        & (quantize_subpixel(f32::NAN) == 0)
-        & (quantize_subpixel(-0.37500003) == 3)
+    [
+        quantize_subpixel(0.125),
+        quantize_subpixel(0.875),
+        quantize_subpixel(-0.25),
+        quantize_subpixel(f32::NAN),
+        quantize_subpixel(-0.37500003),
+    ] == [1, 3, 3, 0, 3]
 }
 
 fn outline(x0: f64, y0: f64, x1: f64, y1: f64) -> Glyph

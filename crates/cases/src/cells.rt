@@ -4,13 +4,6 @@ ghost use Rattle.cases.specs.Cells.{Lists, Cells};
 
 use grid_cache::grid::Grid;
 use image_cache::cache::ImageCache;
-use image_cache::image::Image;
-
-fn is_at(image: Image, x: u16, y: u16) -> bool
-    ensures { image.page ≡ 0 → image.x ≡ x → image.y ≡ y → result ≡ true }
-{
-    (image.page == 0) & (image.x == x) & (image.y == y)
-}
 
 // With cells of ten pixels, the first image of a new grid goes to the last cell of the first page, at (70, 70).
 pub(crate) fn cells_hold() -> bool
@@ -24,8 +17,8 @@ pub(crate) fn cells_hold() -> bool
     let Ok(id) = grid.allocate(10, 1) else {
         return false;
     };
-    match grid.get(id) {
-        Some(image) => is_at(image, 70, 70),
-        None => false,
-    }
+    let Some(image) = grid.get(id) else {
+        return false;
+    };
+    (image.page, image.x, image.y) == (0, 70, 70)
 }

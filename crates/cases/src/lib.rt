@@ -21,12 +21,13 @@ fn buckets_hold() -> bool
     ensures cases { Buckets }
     ensures run { result ≡ true }
 {
-    let nan = 0.0 / 0.0;
-    (quantize_subpixel(0.125) == 1)
-        & (quantize_subpixel(0.875) == 3)
-        & (quantize_subpixel(-0.25) == 3)
-        & (quantize_subpixel(nan) == 0)
-        & (quantize_subpixel(-0.37500003) == 3)
+    [
+        quantize_subpixel(0.125),
+        quantize_subpixel(0.875),
+        quantize_subpixel(-0.25),
+        quantize_subpixel(f32::NAN),
+        quantize_subpixel(-0.37500003),
+    ] == [1, 3, 3, 0, 3]
 }
 
 fn outline(x0: f64, y0: f64, x1: f64, y1: f64) -> Glyph
@@ -43,12 +44,9 @@ fn transforms_hold() -> bool
     ensures run { result ≡ true }
 {
     let skewed = Affine {
-        a: 1.0,
         b: 0.000244140625,
-        c: 0.0,
         d: -1.0,
-        e: 0.0,
-        f: 0.0,
+        ..Affine::IDENTITY
     };
     supports_atlas_caching(skewed, outline(0.5, -2.0, 6.25, 7.5))
 }
@@ -67,24 +65,13 @@ fn metrics(width: u16, height: u16, left: i16, top: i16) -> RasterMetrics
 fn is_metrics(answer: Result<RasterMetrics, RasterFault>, expected: RasterMetrics) -> bool
     ensures { answer ≡ Ok expected → result ≡ true }
 {
-    match answer {
-        Ok(m) => {
-            (m.width == expected.width)
-                & (m.height == expected.height)
-                & (m.left == expected.left)
-                & (m.top == expected.top)
-        }
-        Err(_) => false,
-    }
+    answer == Ok(expected)
 }
 
 fn is_refused(answer: Result<RasterMetrics, RasterFault>, number: u8) -> bool
     ensures { refused_with raster_number answer ≡ Some number → result ≡ true }
 {
-    match answer {
-        Ok(_) => false,
-        Err(fault) => fault.number() == number,
-    }
+    answer.is_err_and(|fault| fault.number() == number)
 }
 
 // A letter, and the widest picture that there can be and one pixel more.
@@ -96,8 +83,8 @@ fn sizes_hold() -> bool
     let widest = calculate_raster_metrics(outline(0.0, 0.0, 65532.0, 1.0));
     let wider = calculate_raster_metrics(outline(0.0, 0.0, 65533.0, 1.0));
     is_metrics(letter, metrics(8, 10, 0, -8))
-        & is_metrics(widest, metrics(65533, 1, 0, -1))
-        & is_refused(wider, 5)
+        && is_metrics(widest, metrics(65533, 1, 0, -1))
+        && is_refused(wider, 5)
 }
 
 // The cases of the definitions, and that the code gives them.
@@ -105,5 +92,5 @@ pub fn cases_hold() -> bool
     ensures cases { Cases }
     ensures run { result ≡ true }
 {
-    buckets_hold() & transforms_hold() & sizes_hold() & cells_hold()
+    buckets_hold() && transforms_hold() && sizes_hold() && cells_hold()
 }

@@ -103,40 +103,49 @@ unfolding round_with
 ceil_opened true m e = refl
 ceil_opened false m e = refl
 
+-- a whole number next to the value, that is q by units
+rounded : (s : Bool) (m : ℕ) (e : ℤ) (n q : ℕ) → Whole binary64 m e → Near m e n → n ≡ q → to_signed 31 (round binary64 s n 1) ≡ saturate_to_bits 31 (cond s (neg_ℤ (pos q)) (pos q))
+rounded false m e n q w h k = signed_at _ false n (near_value binary64 false m e n w h) ∙ ap (λ (z : ℕ). pos (min z (2 ^ 31 - 1))) k
+rounded true m e n q w h k = signed_at _ true n (near_value binary64 true m e n w h) ∙ ap (λ (z : ℕ). neg_ℤ (pos (min z (2 ^ 31)))) k ∙ sat_neg q
+
+module _ (s : Bool) (m : ℕ) (e : ℤ) (h : T (fits binary64 (fin s m e))) where
+  abbrev n : ℕ
+  n = units_at binary64 m e
+
+  abbrev signed : ℕ → ℤ
+  signed q = cond s (neg_ℤ (pos q)) (pos q)
+
+  -- rounded down in size, and up
+  cut_units : to_signed 31 (round binary64 s (ratio_floor (m * up e) (down e)) 1) ≡ saturate_to_bits 31 (signed (n / units_in_one))
+  cut_units =
+      let w = whole binary64 s m e h in
+      rounded s m e _ _ w (cut_near m e) (div_same (m * up e) (down e) n units_in_one (down_pos e) (pow_pos 1074) (units_cross binary64 m e w))
+
+  raised_units : to_signed 31 (round binary64 s (ratio_ceil (m * up e) (down e)) 1) ≡ saturate_to_bits 31 (signed (ratio_ceil n units_in_one))
+  raised_units =
+      let w = whole binary64 s m e h in
+      rounded s m e _ _ w (raised_near m e) (raised_same (m * up e) (down e) n units_in_one (down_pos e) (pow_pos 1074) (units_cross binary64 m e w))
+
 pub floor_units : (x : Float) → T (fits binary64 x) → T (float_is_finite x) → to_signed 31 (floor binary64 x) ≡ saturate_to_bits 31 (floor_of (units_of x))
 unfolding float_is_finite
 floor_units nan h k = absurd k
 floor_units (inf s) h k = absurd k
-floor_units (fin false m e) h k =
-    let w = whole binary64 false m e h in
-    ap (to_signed 31) (floor_opened false m e)
-    ∙ signed_at _ false (ratio_floor (m * up e) (down e)) (near_value binary64 false m e _ w (cut_near m e))
-    ∙ ap (λ (q : ℕ). pos (min q (2 ^ 31 - 1))) (div_same (m * up e) (down e) (units_at binary64 m e) units_in_one (down_pos e) (pow_pos 1074) (units_cross binary64 m e w))
+floor_units (fin false m e) h k = ap (to_signed 31) (floor_opened false m e) ∙ cut_units false m e h
 floor_units (fin true m e) h k =
-    let w = whole binary64 true m e h in
-    let n = units_at binary64 m e in
     ap (to_signed 31) (floor_opened true m e)
-    ∙ signed_at _ true (ratio_ceil (m * up e) (down e)) (near_value binary64 true m e _ w (raised_near m e))
-    ∙ ap (λ (q : ℕ). neg_ℤ (pos (min q (2 ^ 31)))) (raised_same (m * up e) (down e) n units_in_one (down_pos e) (pow_pos 1074) (units_cross binary64 m e w))
-    ∙ sat_neg (ratio_ceil n units_in_one)
-    ∙ ap (saturate_to_bits 31) (sym (floor_neg n))
+    ∙ raised_units true m e h
+    ∙ ap (saturate_to_bits 31) (sym (floor_neg (units_at binary64 m e)))
 
 pub ceil_units : (x : Float) → T (fits binary64 x) → T (float_is_finite x) → to_signed 31 (ceil binary64 x) ≡ saturate_to_bits 31 (ceil_of (units_of x))
 unfolding float_is_finite
 ceil_units nan h k = absurd k
 ceil_units (inf s) h k = absurd k
 ceil_units (fin false m e) h k =
-    let w = whole binary64 false m e h in
     let n = units_at binary64 m e in
     ap (to_signed 31) (ceil_opened false m e)
-    ∙ signed_at _ false (ratio_ceil (m * up e) (down e)) (near_value binary64 false m e _ w (raised_near m e))
-    ∙ ap (λ (q : ℕ). pos (min q (2 ^ 31 - 1))) (raised_same (m * up e) (down e) n units_in_one (down_pos e) (pow_pos 1074) (units_cross binary64 m e w))
+    ∙ raised_units false m e h
     ∙ ap (saturate_to_bits 31) (sym (neg_ℤ-neg_ℤ (pos (ratio_ceil n units_in_one))) ∙ ap neg_ℤ (sym (floor_neg n)))
 ceil_units (fin true m e) h k =
-    let w = whole binary64 true m e h in
-    let n = units_at binary64 m e in
     ap (to_signed 31) (ceil_opened true m e)
-    ∙ signed_at _ true (ratio_floor (m * up e) (down e)) (near_value binary64 true m e _ w (cut_near m e))
-    ∙ ap (λ (q : ℕ). neg_ℤ (pos (min q (2 ^ 31)))) (div_same (m * up e) (down e) n units_in_one (down_pos e) (pow_pos 1074) (units_cross binary64 m e w))
-    ∙ sat_neg (n / units_in_one)
-    ∙ ap (λ (z : ℤ). saturate_to_bits 31 (neg_ℤ (floor_of z))) (sym (neg_ℤ-neg_ℤ (pos n)))
+    ∙ cut_units true m e h
+    ∙ ap (λ (z : ℤ). saturate_to_bits 31 (neg_ℤ (floor_of z))) (sym (neg_ℤ-neg_ℤ (pos (units_at binary64 m e))))

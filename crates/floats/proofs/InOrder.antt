@@ -40,31 +40,7 @@ le_signed true true zero (suc n) = grind (arith, nat_tests)
 le_signed true true (suc m) zero = grind (arith, nat_tests)
 le_signed true true (suc m) (suc n) = grind (arith, nat_tests)
 
-opened : (s : Bool) (m : ℕ) (e : ℤ) (t : Bool) (n : ℕ) (g : ℤ) → le (fin s m e) (fin t n g) ≡ (below s (m * up e * down g) t (n * up g * down e) || level s (m * up e * down g) t (n * up g * down e))
-unfolding le
-opened s m e t n g = refl
-
-pub le_units : (x y : Float) → T (fits binary64 x) → T (fits binary64 y) → T (float_is_finite x) → T (float_is_finite y) → le x y ≡ le_z (units_of x) (units_of y)
-unfolding float_is_finite
-le_units nan y h k p q = absurd p
-le_units (inf s) y h k p q = absurd p
-le_units (fin s m e) nan h k p q = absurd q
-le_units (fin s m e) (inf t) h k p q = absurd q
-le_units (fin s m e) (fin t n g) h k p q =
-    let u = 2 ^ 1074 in
-    let a = m * up e in
-    let b = n * up g in
-    let M = units_at binary64 m e in
-    let K = units_at binary64 n g in
-    let x : a * down g * u ≡ M * (down e * down g) = mul_right_comm a (down g) u ∙ ap (λ (z : ℕ). z * down g) (units_cross binary64 m e (whole binary64 s m e h)) ∙ mul_assoc M (down e) (down g) in
-    let y : b * down e * u ≡ K * (down e * down g) = mul_right_comm b (down e) u ∙ ap (λ (z : ℕ). z * down e) (units_cross binary64 n g (whole binary64 t n g k)) ∙ mul_assoc K (down g) (down e) ∙ ap (λ (z : ℕ). K * z) (mul_comm (down g) (down e)) in
-    let V : 0 < down e * down g = mul-pos (down_pos e) (down_pos g) in
-    opened s m e t n g
-    ∙ ap (λ (z : Bool). z || level s (a * down g) t (b * down e)) (below_scale u (down e * down g) (pow_pos 1074) V s t (a * down g) (b * down e) M K x y)
-    ∙ ap (λ (z : Bool). below s M t K || z) (level_scale u (down e * down g) (pow_pos 1074) V s t (a * down g) (b * down e) M K x y)
-    ∙ le_signed s t M K
-
--- ---- strictly
+-- strictly
 lt_signed : (s t : Bool) (m n : ℕ) → below s m t n ≡ lt_z (signed s m) (signed t n)
 lt_signed false false m n = refl
 lt_signed false true m zero = grind (arith, nat_tests)
@@ -76,9 +52,56 @@ lt_signed true true zero (suc n) = grind (arith, nat_tests)
 lt_signed true true (suc m) zero = grind (arith, nat_tests)
 lt_signed true true (suc m) (suc n) = grind (arith, nat_tests)
 
-lt_opened : (s : Bool) (m : ℕ) (e : ℤ) (t : Bool) (n : ℕ) (g : ℤ) → lt (fin s m e) (fin t n g) ≡ below s (m * up e * down g) t (n * up g * down e)
-unfolding lt
-lt_opened s m e t n g = refl
+-- two finite values over one denominator, and their units
+module _ (s t : Bool) (m n : ℕ) (e g : ℤ) (h : T (fits binary64 (fin s m e))) (k : T (fits binary64 (fin t n g))) where
+  abbrev u : ℕ
+  u = 2 ^ 1074
+
+  abbrev d : ℕ
+  d = down e * down g
+
+  abbrev a : ℕ
+  a = m * up e * down g
+
+  abbrev b : ℕ
+  b = n * up g * down e
+
+  abbrev x : ℕ
+  x = units_at binary64 m e
+
+  abbrev y : ℕ
+  y = units_at binary64 n g
+
+  positive : 0 < d
+  positive = mul-pos (down_pos e) (down_pos g)
+
+  left : a * u ≡ x * d
+  left = mul_right_comm (m * up e) (down g) u ∙ ap (λ (z : ℕ). z * down g) (units_cross binary64 m e (whole binary64 s m e h)) ∙ mul_assoc x (down e) (down g)
+
+  right : b * u ≡ y * d
+  right = mul_right_comm (n * up g) (down e) u ∙ ap (λ (z : ℕ). z * down e) (units_cross binary64 n g (whole binary64 t n g k)) ∙ mul_assoc y (down g) (down e) ∙ ap (λ (z : ℕ). y * z) (mul_comm (down g) (down e))
+
+  below_units : below s a t b ≡ below s x t y
+  below_units = below_scale u d (pow_pos 1074) positive s t a b x y left right
+
+  level_units : level s a t b ≡ level s x t y
+  level_units = level_scale u d (pow_pos 1074) positive s t a b x y left right
+
+  le_finite : le (fin s m e) (fin t n g) ≡ le_z (signed s x) (signed t y)
+  unfolding le
+  le_finite = (λ i. below_units i || level_units i) ∙ le_signed s t x y
+
+  lt_finite : lt (fin s m e) (fin t n g) ≡ lt_z (signed s x) (signed t y)
+  unfolding lt
+  lt_finite = below_units ∙ lt_signed s t x y
+
+pub le_units : (x y : Float) → T (fits binary64 x) → T (fits binary64 y) → T (float_is_finite x) → T (float_is_finite y) → le x y ≡ le_z (units_of x) (units_of y)
+unfolding float_is_finite
+le_units nan y h k p q = absurd p
+le_units (inf s) y h k p q = absurd p
+le_units (fin s m e) nan h k p q = absurd q
+le_units (fin s m e) (inf t) h k p q = absurd q
+le_units (fin s m e) (fin t n g) h k p q = le_finite s t m n e g h k
 
 pub lt_units : (x y : Float) → T (fits binary64 x) → T (fits binary64 y) → T (float_is_finite x) → T (float_is_finite y) → lt x y ≡ lt_z (units_of x) (units_of y)
 unfolding float_is_finite
@@ -86,15 +109,4 @@ lt_units nan y h k p q = absurd p
 lt_units (inf s) y h k p q = absurd p
 lt_units (fin s m e) nan h k p q = absurd q
 lt_units (fin s m e) (inf t) h k p q = absurd q
-lt_units (fin s m e) (fin t n g) h k p q =
-    let u = 2 ^ 1074 in
-    let a = m * up e in
-    let b = n * up g in
-    let M = units_at binary64 m e in
-    let K = units_at binary64 n g in
-    let x : a * down g * u ≡ M * (down e * down g) = mul_right_comm a (down g) u ∙ ap (λ (z : ℕ). z * down g) (units_cross binary64 m e (whole binary64 s m e h)) ∙ mul_assoc M (down e) (down g) in
-    let y : b * down e * u ≡ K * (down e * down g) = mul_right_comm b (down e) u ∙ ap (λ (z : ℕ). z * down e) (units_cross binary64 n g (whole binary64 t n g k)) ∙ mul_assoc K (down g) (down e) ∙ ap (λ (z : ℕ). K * z) (mul_comm (down g) (down e)) in
-    let V : 0 < down e * down g = mul-pos (down_pos e) (down_pos g) in
-    lt_opened s m e t n g
-    ∙ below_scale u (down e * down g) (pow_pos 1074) V s t (a * down g) (b * down e) M K x y
-    ∙ lt_signed s t M K
+lt_units (fin s m e) (fin t n g) h k p q = lt_finite s t m n e g h k

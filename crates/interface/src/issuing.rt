@@ -9,10 +9,7 @@ impl SavedStates {
     pub fn issue(&mut self) -> Result<SavedState, SinkFault>
         ensures { Issued self.old result self.new }
     {
-        if self.depth == u64::MAX {
-            return Err(SinkFault::NoPlace);
-        }
-        self.depth += 1;
+        self.depth = self.depth.checked_add(1).ok_or(SinkFault::NoPlace)?;
         Ok(SavedState {
             screen: self.screen,
             depth: self.depth,

@@ -1,6 +1,6 @@
 // Where a glyph's picture lies.
 ghost use Rattle.std.specs.Prelude.{◌≡◌};
-ghost use Rattle.interface.specs.Slots.{identity, slot_page, slot_place};
+ghost use Rattle.interface.specs.Slots.{slot_page, slot_place};
 
 use crate::values::ImageSource;
 use shapes::Affine;
@@ -19,20 +19,6 @@ pub struct AtlasSlot {
     pub top: i16,
 }
 
-// Leaves every point where it is.
-fn identity() -> Affine
-    ensures { result ≡ identity }
-{
-    Affine {
-        a: 1.0,
-        b: 0.0,
-        c: 0.0,
-        d: 1.0,
-        e: 0.0,
-        f: 0.0,
-    }
-}
-
 impl AtlasSlot {
     // The page as an image.
     pub fn page_image(self) -> ImageSource
@@ -48,7 +34,7 @@ impl AtlasSlot {
         Affine {
             e: -(self.x as f64),
             f: -(self.y as f64),
-            ..identity()
+            ..Affine::IDENTITY
         }
     }
 }

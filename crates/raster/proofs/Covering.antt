@@ -1,8 +1,8 @@
 -- A picture made from a box covers it. Assumes nothing.
 use Rattle.std.proofs.Common.{◌≡◌, ℕ, ◌^◌, ◌<◌, Bool, true, false, cond, ◌&&◌, ℤ, pos, negsuc, ◌+ℤ◌, ◌-ℤ◌, ◌*ℤ◌, neg_ℤ, nat_abs, ◌≤ℤ◌, ◌<ℤ◌, IfErr, Ok, Err, Result, sym, refl, subst, arith, pow_pos}
+use Rattle.std.proofs.lemmas.Bool.{false≢true, and_parts}
 use Rattle.std.proofs.lemmas.Int.{ints}
 use Rattle.floats.specs.Units.{units_of, floor_by}
-use Rattle.floats.proofs.Numbers.{passes}
 use Rattle.floats.proofs.Wholes.{floor_not_above, floor_next, ceil_not_below, ceil_next}
 use Rattle.shapes.specs.Numbers.{finite_rect}
 use Rattle.shapes.specs.declared.Rect.{Rect}
@@ -18,16 +18,7 @@ use Rattle.raster.specs.Cover.{Covers, covers_box, covers, Measured}
 -- an answer that is no refusal passed the test
 passed : (b : Bool) (x : Result RasterMetrics RasterFault) (m : RasterMetrics) → cond b x (Err Metrics) ≡ Ok m → (b ≡ true) × (x ≡ Ok m)
 passed true x m h = (refl, h)
-passed false x m h = absurd (let z : ◌≡◌ {A = ℕ} 0 1 = cc in omega arith)
-
-left : (x y : Bool) → x && y ≡ true → x ≡ true
-left true y h = refl
-left false y h = h
-
-right : (x y : Bool) → x && y ≡ true → y ≡ true
-right true y h = h
-right false true h = refl
-right false false h = h
+passed false x m h = absurd cc
 
 -- the numbers of a picture by its edges
 record Edged (l r t b : ℤ) (m : RasterMetrics) : Type 0 where
@@ -38,7 +29,7 @@ record Edged (l r t b : ℤ) (m : RasterMetrics) : Type 0 where
 
 extent_is : (z : ℤ) → is_extent z ≡ true → pos (nat_abs z) ≡ z
 extent_is (pos n) h = refl
-extent_is (negsuc n) h = absurd (passes false h)
+extent_is (negsuc n) h = absurd (false≢true h)
 
 edged_made : (l r t b : ℤ) → is_extent (r -ℤ l) ≡ true → is_extent (b -ℤ t) ≡ true → Edged l r t b (record { width = nat_abs (r -ℤ l); height = nat_abs (b -ℤ t); left = l; top = t })
 edged_made l r t b w h =
@@ -52,10 +43,11 @@ edged l r t b m h =
     let H = is_extent (b -ℤ t) in
     let made : RasterMetrics = record { width = nat_abs (r -ℤ l); height = nat_abs (b -ℤ t); left = l; top = t } in
     let p = passed (W && H && is_bearing l && is_bearing t) (Ok made) m h in
-    let both = left (W && H) (is_bearing l) (left (W && H && is_bearing l) (is_bearing t) p.0) in
+    let sizes = and_parts (W && H) (is_bearing l) (and_parts (W && H && is_bearing l) (is_bearing t) p.0).0 in
+    let both = and_parts W H sizes.0 in
     let P : RasterMetrics → Type 0 = λ k. Edged l r t b k in
     let same : made ≡ m = cc p.1 in
-    subst P same (edged_made l r t b (left W H both) (right W H both))
+    subst P same (edged_made l r t b both.0 both.1)
 
 module _ (u : ℕ) (U : 0 < u) (x0 y0 x1 y1 : ℤ) (m : RasterMetrics) where
   covered : Edged (floor_by u x0) (neg_ℤ (floor_by u (neg_ℤ x1)) +ℤ pos 1) (floor_by u (neg_ℤ y1)) (neg_ℤ (floor_by u (neg_ℤ (neg_ℤ y0)))) m → Covers u x0 y0 x1 y1 m

@@ -1,9 +1,9 @@
 -- Edges that are cut to 32 bits give the same size and bearings. Assumes nothing.
-use Rattle.std.proofs.Common.{◌≡◌, ℕ, ◌-◌, ◌^◌, ◌<◌, ◌≤◌, min, Bool, true, false, ◌⊎◌, ℤ, pos, negsuc, ◌+ℤ◌, ◌-ℤ◌, ◌≤ℤ◌, Err, Result, sym, refl, ap, ◌∙◌, inl, inr, eq-zero-or-pos, arith}
+use Rattle.std.proofs.Common.{◌≡◌, ℕ, ◌-◌, ◌^◌, ◌<◌, ◌≤◌, min, true, false, ℤ, pos, negsuc, ◌+ℤ◌, ◌-ℤ◌, ◌≤ℤ◌, Err, sym, refl, ap, ◌∙◌, inl, inr, eq-zero-or-pos, arith}
 use lib.IntN.{+ℤ_idr}
+use Rattle.std.proofs.lemmas.Bool.{cases_Bool}
 use Rattle.std.specs.Int.{saturate_to_bits}
 use Rattle.std.proofs.lemmas.Int.{ints}
-use Rattle.raster.specs.declared.fault.RasterFault.{RasterFault}
 use Rattle.raster.specs.declared.fault.RasterFault.TheVariants.{Metrics}
 use Rattle.raster.specs.Metric.{is_extent, is_bearing, extent_of, bearing_of, from_edges}
 use Rattle.raster.proofs.Edges.{joined, by_parts, no_left, no_top}
@@ -68,34 +68,25 @@ sat_height t b h =
     ∙ sat_extent t b 0 (omega arith) (grind (arith, ints)) (grind (arith, ints))
     ∙ ap (λ (z : ℤ). extent_of (z -ℤ t)) (+ℤ_idr b)
 
-split : (b : Bool) → (b ≡ true) ⊎ (b ≡ false)
-split true = inl refl
-split false = inr refl
-
+-- where a bearing is refused, so is its cut
 module _ (l r t b : ℤ) where
-  abbrev cut_width : Result ℕ RasterFault
-  cut_width = extent_of (saturate_to_bits 31 r +ℤ pos 1 -ℤ saturate_to_bits 31 l)
-
-  abbrev cut_height : Result ℕ RasterFault
-  cut_height = extent_of (saturate_to_bits 31 b -ℤ saturate_to_bits 31 t)
-
-  joined_cut : joined cut_width cut_height (bearing_of (saturate_to_bits 31 l)) (bearing_of (saturate_to_bits 31 t)) ≡ joined (extent_of (r +ℤ pos 1 -ℤ l)) (extent_of (b -ℤ t)) (bearing_of l) (bearing_of t)
-  joined_cut =
-      elim (split (is_bearing l)) [
+  pub edges_cut : from_edges (saturate_to_bits 31 l) (saturate_to_bits 31 r +ℤ pos 1) (saturate_to_bits 31 t) (saturate_to_bits 31 b) ≡ from_edges l (r +ℤ pos 1) t b
+  edges_cut =
+      let L = saturate_to_bits 31 l in
+      let R = saturate_to_bits 31 r in
+      let H = saturate_to_bits 31 t in
+      let B = saturate_to_bits 31 b in
+      elim (cases_Bool (is_bearing l)) [
         | inr x ↦
-            (λ i. joined cut_width cut_height ((sat_bearing l ∙ bearing_no l x) i) (bearing_of (saturate_to_bits 31 t)))
-            ∙ no_left cut_width cut_height Metrics (bearing_of (saturate_to_bits 31 t))
-            ∙ sym (no_left (extent_of (r +ℤ pos 1 -ℤ l)) (extent_of (b -ℤ t)) Metrics (bearing_of t))
-            ∙ (λ i. joined (extent_of (r +ℤ pos 1 -ℤ l)) (extent_of (b -ℤ t)) (sym (bearing_no l x) i) (bearing_of t))
-        | inl x ↦ elim (split (is_bearing t)) [
+            no_left L (R +ℤ pos 1) H B Metrics (sat_bearing l ∙ bearing_no l x)
+            ∙ sym (no_left l (r +ℤ pos 1) t b Metrics (bearing_no l x))
+        | inl x ↦ elim (cases_Bool (is_bearing t)) [
           | inr y ↦
-              (λ i. joined cut_width cut_height (bearing_of (saturate_to_bits 31 l)) ((sat_bearing t ∙ bearing_no t y) i))
-              ∙ no_top cut_width cut_height (bearing_of (saturate_to_bits 31 l)) Metrics
-              ∙ sym (no_top (extent_of (r +ℤ pos 1 -ℤ l)) (extent_of (b -ℤ t)) (bearing_of l) Metrics)
-              ∙ (λ i. joined (extent_of (r +ℤ pos 1 -ℤ l)) (extent_of (b -ℤ t)) (bearing_of l) (sym (bearing_no t y) i))
-          | inl y ↦ λ i. joined (sat_size l r x i) (sat_height t b y i) (sat_bearing l i) (sat_bearing t i)
+              no_top L (R +ℤ pos 1) H B Metrics (sat_bearing t ∙ bearing_no t y)
+              ∙ sym (no_top l (r +ℤ pos 1) t b Metrics (bearing_no t y))
+          | inl y ↦
+              sym (by_parts L (R +ℤ pos 1) H B)
+              ∙ (λ i. joined (sat_size l r x i) (sat_height t b y i) (sat_bearing l i) (sat_bearing t i))
+              ∙ by_parts l (r +ℤ pos 1) t b
         ]
       ]
-
-  pub edges_cut : from_edges (saturate_to_bits 31 l) (saturate_to_bits 31 r +ℤ pos 1) (saturate_to_bits 31 t) (saturate_to_bits 31 b) ≡ from_edges l (r +ℤ pos 1) t b
-  edges_cut = sym (by_parts (saturate_to_bits 31 l) (saturate_to_bits 31 r +ℤ pos 1) (saturate_to_bits 31 t) (saturate_to_bits 31 b)) ∙ joined_cut ∙ by_parts l (r +ℤ pos 1) t b

@@ -1,6 +1,6 @@
 -- The answer from four edges by its parts: each of the four numbers is there, or all is refused. Assumes nothing.
-use Rattle.std.proofs.Common.{◌≡◌, ℕ, Bool, true, false, cond, ◌&&◌, ℤ, ◌-ℤ◌, nat_abs, is_err, Ok, Err, Result, refl}
-use Rattle.floats.proofs.Numbers.{passes}
+use Rattle.std.proofs.Common.{◌≡◌, ℕ, Bool, true, false, cond, ◌&&◌, ℤ, ◌-ℤ◌, nat_abs, is_err, Ok, Err, Result, sym, refl, ◌∙◌}
+use Rattle.std.proofs.lemmas.Bool.{false≢true}
 use Rattle.raster.specs.declared.glyph.RasterMetrics.{RasterMetrics}
 use Rattle.raster.specs.declared.fault.RasterFault.{RasterFault}
 use Rattle.raster.specs.declared.fault.RasterFault.TheVariants.{Metrics}
@@ -13,21 +13,6 @@ joined (Ok w) (Ok h) (Err e) t = Err Metrics
 joined (Ok w) (Err e) l t = Err Metrics
 joined (Err e) h l t = Err Metrics
 
-pub no_height : (w : Result ℕ RasterFault) (e : RasterFault) (l t : Result ℤ RasterFault) → joined w (Err e) l t ≡ Err Metrics
-no_height (Ok w) e l t = refl
-no_height (Err d) e l t = refl
-
-pub no_left : (w h : Result ℕ RasterFault) (e : RasterFault) (t : Result ℤ RasterFault) → joined w h (Err e) t ≡ Err Metrics
-no_left (Ok w) (Ok h) e t = refl
-no_left (Ok w) (Err d) e t = refl
-no_left (Err d) h e t = refl
-
-pub no_top : (w h : Result ℕ RasterFault) (l : Result ℤ RasterFault) (e : RasterFault) → joined w h l (Err e) ≡ Err Metrics
-no_top (Ok w) (Ok h) (Ok l) e = refl
-no_top (Ok w) (Ok h) (Err d) e = refl
-no_top (Ok w) (Err d) l e = refl
-no_top (Err d) h l e = refl
-
 pub by_parts : (l r t b : ℤ) → joined (extent_of (r -ℤ l)) (extent_of (b -ℤ t)) (bearing_of l) (bearing_of t) ≡ from_edges l r t b
 by_parts l r t b = go (is_extent (r -ℤ l)) (is_extent (b -ℤ t)) (is_bearing l) (is_bearing t)
   where
@@ -39,7 +24,36 @@ by_parts l r t b = go (is_extent (r -ℤ l)) (is_extent (b -ℤ t)) (is_bearing 
     go true false x y = refl
     go false h x y = refl
 
+-- where one of the four is refused, all is
+module _ (l r t b : ℤ) (e : RasterFault) where
+  without_height : (w : Result ℕ RasterFault) (x y : Result ℤ RasterFault) → joined w (Err e) x y ≡ Err Metrics
+  without_height (Ok w) x y = refl
+  without_height (Err d) x y = refl
+
+  without_left : (w h : Result ℕ RasterFault) (y : Result ℤ RasterFault) → joined w h (Err e) y ≡ Err Metrics
+  without_left (Ok w) (Ok h) y = refl
+  without_left (Ok w) (Err d) y = refl
+  without_left (Err d) h y = refl
+
+  without_top : (w h : Result ℕ RasterFault) (x : Result ℤ RasterFault) → joined w h x (Err e) ≡ Err Metrics
+  without_top (Ok w) (Ok h) (Ok x) = refl
+  without_top (Ok w) (Ok h) (Err d) = refl
+  without_top (Ok w) (Err d) x = refl
+  without_top (Err d) h x = refl
+
+  pub no_width : extent_of (r -ℤ l) ≡ Err e → from_edges l r t b ≡ Err Metrics
+  no_width n = sym (by_parts l r t b) ∙ (λ i. joined (n i) (extent_of (b -ℤ t)) (bearing_of l) (bearing_of t))
+
+  pub no_height : extent_of (b -ℤ t) ≡ Err e → from_edges l r t b ≡ Err Metrics
+  no_height n = sym (by_parts l r t b) ∙ (λ i. joined (extent_of (r -ℤ l)) (n i) (bearing_of l) (bearing_of t)) ∙ without_height _ _ _
+
+  pub no_left : bearing_of l ≡ Err e → from_edges l r t b ≡ Err Metrics
+  no_left n = sym (by_parts l r t b) ∙ (λ i. joined (extent_of (r -ℤ l)) (extent_of (b -ℤ t)) (n i) (bearing_of t)) ∙ without_left _ _ _
+
+  pub no_top : bearing_of t ≡ Err e → from_edges l r t b ≡ Err Metrics
+  no_top n = sym (by_parts l r t b) ∙ (λ i. joined (extent_of (r -ℤ l)) (extent_of (b -ℤ t)) (bearing_of l) (n i)) ∙ without_top _ _ _
+
 -- there is only one fault to return
 pub only_fault : (r : Result RasterMetrics RasterFault) → is_err r ≡ true → r ≡ Err Metrics
-only_fault (Ok m) h = absurd (passes false h)
+only_fault (Ok m) h = absurd (false≢true h)
 only_fault (Err Metrics) h = refl

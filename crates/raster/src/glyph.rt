@@ -22,7 +22,7 @@ pub enum Glyph {
 }
 
 // The size of a picture in pixels, and its bearings: how far its left and top edges lie from the glyph's origin, x to the right and y downward.
-#[derive(Clone, Copy)]
+#[derive(Clone, Copy, PartialEq, Eq)]
 pub struct RasterMetrics {
     pub width: u16,
     pub height: u16,

@@ -23,13 +23,13 @@ fn is_unit(x: f64) -> bool
     ensures { result ≡ nearly_unit x }
 {
     let size = x.abs();
-    (UNDER_ONE <= size) & (size <= OVER_ONE)
+    UNDER_ONE <= size && size <= OVER_ONE
 }
 
 fn is_linear_finite(t: Affine) -> bool
     ensures { result ≡ linear_finite t }
 {
-    t.a.is_finite() & t.b.is_finite() & t.c.is_finite() & t.d.is_finite()
+    t.a.is_finite() && t.b.is_finite() && t.c.is_finite() && t.d.is_finite()
 }
 
 fn supports_outline(t: Affine) -> bool
@@ -50,11 +50,9 @@ fn supports_bitmap(t: Affine) -> bool
 pub fn supports_atlas_caching(transform: Affine, glyph: Glyph) -> bool
     ensures { result ≡ supported glyph transform }
 {
-    if !is_linear_finite(transform) {
-        return false;
-    }
-    match glyph {
-        Glyph::Outline(_) => supports_outline(transform),
-        Glyph::Bitmap(_) => supports_bitmap(transform),
-    }
+    is_linear_finite(transform)
+        && match glyph {
+            Glyph::Outline(_) => supports_outline(transform),
+            Glyph::Bitmap(_) => supports_bitmap(transform),
+        }
 }

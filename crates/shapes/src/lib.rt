@@ -52,16 +52,26 @@ pub struct Color {
 }
 
 impl Affine {
+    // Leaves every point where it is.
+    pub const IDENTITY: Affine = Affine {
+        a: 1.0,
+        b: 0.0,
+        c: 0.0,
+        d: 1.0,
+        e: 0.0,
+        f: 0.0,
+    };
+
     // Whether every number is finite: no NaN and no infinity.
     pub fn is_finite(self) -> bool
         ensures { result ≡ finite_affine self }
     {
         self.a.is_finite()
-            & self.b.is_finite()
-            & self.c.is_finite()
-            & self.d.is_finite()
-            & self.e.is_finite()
-            & self.f.is_finite()
+            && self.b.is_finite()
+            && self.c.is_finite()
+            && self.d.is_finite()
+            && self.e.is_finite()
+            && self.f.is_finite()
     }
 }
 
@@ -69,7 +79,7 @@ impl Rect {
     pub fn is_finite(self) -> bool
         ensures { result ≡ finite_rect self }
     {
-        self.x0.is_finite() & self.y0.is_finite() & self.x1.is_finite() & self.y1.is_finite()
+        self.x0.is_finite() && self.y0.is_finite() && self.x1.is_finite() && self.y1.is_finite()
     }
 }
 
@@ -97,6 +107,6 @@ impl Color {
     pub fn is_finite(self) -> bool
         ensures { result ≡ finite_color self }
     {
-        self.r.is_finite() & self.g.is_finite() & self.b.is_finite() & self.a.is_finite()
+        self.r.is_finite() && self.g.is_finite() && self.b.is_finite() && self.a.is_finite()
     }
 }

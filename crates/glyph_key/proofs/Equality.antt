@@ -1,5 +1,5 @@
 -- Keys whose numbers agree are equal, and the other way round; and the comparison that is derived compares all numbers. Assumes nothing.
-use Rattle.std.proofs.Common.{◌≡◌, ℕ, Bool, true, false, cond, ◌&&◌, ◌==◌, Decides, eqb, List, drop, get_or, ℤ, pos, negsuc, nat_abs, refl, ap}
+use Rattle.std.proofs.Common.{◌≡◌, ℕ, Bool, true, false, cond, ◌&&◌, ◌==◌, Decides, List, drop, get_or, ℤ, pos, negsuc, nat_abs, refl, ap}
 use Rattle.std.proofs.Math.Bool.{beq, and_assoc}
 use Rattle.std.proofs.lemmas.Bool.Decides.{Decides-like, Decides-eqb, Decides-int_eq, same_from_decides}
 use Rattle.std.proofs.lemmas.Slice.Eq.{slice_eq-Decides}

@@ -2,12 +2,13 @@
 --     key_of p b vs        the key made of the parts p, the bucket b and the axis values vs, or why there is none
 --     Keyed p b vs r       the same of an answer r, with its number where it is a refusal, and the axis values told by the key where it is not
 --     key_refusal p vs     why there is none, by number, the first reason that there is: 2, 3
---     key_with p b vs      the key itself
---     bits_of k            its numbers as f32 bit patterns
+--     key_with p b vs      the key itself, with the numbers bits_with p and the axis values axes_with vs
+--     bits_for p, axes_for vs    each of these two, or why there is none
+--     bits_of k            the key's numbers as f32 bit patterns
 --     axis_values k        the axis values that it was made with
 --     same_key a b         all fields agree, the axis values too, and so does their number
 --     outline_bucket b, bitmap_bucket b    b is a bucket for outlines (0 to 3), for bitmaps (5)
-use Rattle.std.specs.Prelude.{◌≡◌, ℕ, Bool, true, false, cond, ◌&&◌, ◌||◌, List, [], ◌∷◌, length, take, ℤ, pos, negsuc, Some, None, Ok, Err, Option, Result, ◌==◌, is_nan, nat_le, nat_lt, slice_index_or, to_bits, Float}
+use Rattle.std.specs.Prelude.{◌≡◌, ℕ, Bool, false, cond, ◌||◌, List, [], ◌∷◌, length, take, ℤ, pos, negsuc, Some, None, Ok, Err, Option, Result, ◌==◌, is_nan, nat_le, nat_lt, slice_index_or, to_bits, Float}
 use Rattle.std.specs.Float.{round_to_format, binary32}
 use Rattle.std.specs.Cmp.Lexicographic.{pointwise}
 use Rattle.shapes.specs.Answers.{refused_with}
@@ -28,7 +29,7 @@ outline_bucket b = nat_le b 3
 abbrev pub bitmap_bucket : ℕ → Bool
 bitmap_bucket b = b == 5
 
--- the byte that stands for a join style
+-- the number that stands for a join style
 abbrev pub join_number : Join → ℕ
 join_number Bevel = 0
 join_number Miter = 1
@@ -60,6 +61,7 @@ bits_with p = record {
   tolerance = narrowed p.embolden.tolerance;
 }
 
+-- the axis values, each at its place
 abbrev pub axes_with : List ℤ → Axes
 axes_with vs = record {
   count = length vs;
@@ -79,7 +81,6 @@ key_with p bucket vs = record {
   axes = axes_with vs;
 }
 
--- the two that can fail, each alone
 abbrev pub axes_for : List ℤ → Result Axes KeyFault
 axes_for vs = cond (nat_lt 8 (length vs)) (Err TooManyAxes) (Ok (axes_with vs))
 
@@ -99,6 +100,7 @@ bits_of k = k.bits
 abbrev pub axis_places : GlyphCacheKey → List ℤ
 axis_places k = k.axes.places
 
+-- the values at the places that are used
 abbrev pub values_told : Axes → List ℤ
 values_told a = take a.count a.places
 

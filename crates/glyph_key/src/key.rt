@@ -39,13 +39,16 @@ pub struct KeyBits {
     pub tolerance: u32,
 }
 
+pub(crate) const MOST_AXES: usize = 8;
+
 // The axis values of a variable font: how many there are, and a place for each of eight; a place that is not used is zero.
 #[derive(Clone, Copy, PartialEq, Eq)]
 pub(crate) struct Axes {
     pub(crate) count: u8,
-    pub(crate) places: [i16; 8],
+    pub(crate) places: [i16; MOST_AXES],
 }
 
+// What has to agree for two glyphs to share a picture.
 // Keys come from this crate alone, so that the unused places of every key are zero and comparing all places compares the values.
 #[derive(Clone, Copy, PartialEq, Eq)]
 pub struct GlyphCacheKey {

@@ -5,9 +5,7 @@ ghost use Rattle.glyph_key.specs.Keys.{unreadable, unreadable_embolden, bits_for
 
 use crate::bucket::{narrow_bits, quantize_subpixel};
 use crate::fault::KeyFault;
-use crate::key::{Axes, FontEmbolden, GlyphCacheKey, KeyBits, KeyParts};
-
-const MOST_AXES: usize = 8;
+use crate::key::{Axes, FontEmbolden, GlyphCacheKey, KeyBits, KeyParts, MOST_AXES};
 
 // The bucket of every bitmap. Outlines have 0 to 3, so that no outline's key is a bitmap's.
 const SUBPIXEL_BITMAP: u8 = 5;

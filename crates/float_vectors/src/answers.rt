@@ -62,61 +62,62 @@ pub fn answer_to(vector: Vector) -> Answer
     }
 }
 
-fn write_bits<W: fmt::Write>(bits: KeyBits, f: &mut fmt::Formatter<W>) -> fmt::Result {
-    let KeyBits {
-        size,
-        embolden_x,
-        embolden_y,
-        miter_limit,
-        tolerance,
-    } = bits;
-    write!(
-        f,
-        "{size:08x} {embolden_x:08x} {embolden_y:08x} {miter_limit:08x} {tolerance:08x}"
-    )
-}
+// The bit patterns of a key's numbers.
+#[derive(Clone, Copy)]
+struct Bits(KeyBits);
 
-fn write_metrics<W: fmt::Write>(
-    metrics: Result<RasterMetrics, RasterFault>,
-    f: &mut fmt::Formatter<W>,
-) -> fmt::Result {
-    match metrics {
-        Ok(
-            RasterMetrics {
-                width,
-                height,
-                left,
-                top,
-            },
-        ) => write!(f, "{width} {height} {left} {top}"),
-        Err(fault) => write_refusal(fault.number(), f),
+impl fmt::Display for Bits {
+    fn fmt<W: fmt::Write>(&self, f: &mut fmt::Formatter<W>) -> fmt::Result {
+        let KeyBits {
+            size,
+            embolden_x,
+            embolden_y,
+            miter_limit,
+            tolerance,
+        } = self.0;
+        write!(
+            f,
+            "{size:08x} {embolden_x:08x} {embolden_y:08x} {miter_limit:08x} {tolerance:08x}"
+        )
     }
 }
 
-fn write_refusal<W: fmt::Write>(number: u8, f: &mut fmt::Formatter<W>) -> fmt::Result {
-    write!(f, "refused {number}")
+// A picture's width and height, and where it lies.
+#[derive(Clone, Copy)]
+struct Metrics(RasterMetrics);
+
+impl fmt::Display for Metrics {
+    fn fmt<W: fmt::Write>(&self, f: &mut fmt::Formatter<W>) -> fmt::Result {
+        let RasterMetrics {
+            width,
+            height,
+            left,
+            top,
+        } = self.0;
+        write!(f, "{width} {height} {left} {top}")
+    }
+}
+
+// What a call answered: a value, or the number of the refusal.
+#[derive(Clone, Copy)]
+struct Outcome<T, E>(Result<T, E>);
+
+impl<T: fmt::Display, E: Refusal + Copy> fmt::Display for Outcome<T, E> {
+    fn fmt<W: fmt::Write>(&self, f: &mut fmt::Formatter<W>) -> fmt::Result {
+        match &self.0 {
+            Ok(value) => write!(f, "{value}"),
+            Err(fault) => write!(f, "refused {}", fault.number()),
+        }
+    }
 }
 
 impl fmt::Display for Answer {
     fn fmt<W: fmt::Write>(&self, f: &mut fmt::Formatter<W>) -> fmt::Result {
         match *self {
             Answer::Bucket(bucket) => write!(f, "bucket {bucket}"),
-            Answer::Narrow(Ok(bits)) => {
-                f.write_str("narrow ")?;
-                write_bits(bits, f)
-            }
-            Answer::Narrow(Err(fault)) => {
-                f.write_str("narrow ")?;
-                write_refusal(fault.number(), f)
-            }
-            Answer::Metrics(metrics) => {
-                f.write_str("metrics ")?;
-                write_metrics(metrics, f)
-            }
-            Answer::Bitmap(metrics) => {
-                f.write_str("bitmap ")?;
-                write_metrics(metrics, f)
-            }
+            Answer::Narrow(bits) => write!(f, "narrow {}", Outcome(bits.map(Bits))),
+            Answer::Metrics(metrics) => write!(f, "metrics {}", Outcome(metrics.map(Metrics))),
+            Answer::Bitmap(metrics) => write!(f, "bitmap {}", Outcome(metrics.map(Metrics))),
             Answer::Supports(supports) => write!(f, "supports {supports}"),
             Answer::Finite(finite) => write!(f, "finite {finite}"),
         }

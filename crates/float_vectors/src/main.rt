@@ -10,11 +10,8 @@ use crate::replies::reply_to;
 use std::io;
 
 fn main(rt: HostRuntime) -> io::Result<()> {
-    let mut number: u64 = 0;
-    for line in rt.lines(rt.alloc()) {
-        let line = line?;
-        number = number.saturating_add(1);
-        rt.println(reply_to(number, line.as_str()))?;
+    for (number, line) in (1..).zip(rt.lines(rt.alloc())) {
+        rt.println(reply_to(number, line?.as_str()))?;
     }
     Ok(())
 }

@@ -1,6 +1,6 @@
 // The reply to a line: comments and blank lines come back as they are.
 use crate::answers::{Answer, answer_to};
-use crate::reading::vector_of;
+use crate::vectors::Vector;
 use std::fmt;
 
 #[derive(Clone, Copy)]
@@ -18,15 +18,15 @@ pub fn reply_to(number: u64, line: &str) -> Reply<'_> {
     if !is_vector(line) {
         return Reply::Echo(line);
     }
-    match vector_of(line) {
-        Some(vector) => Reply::Answered(answer_to(vector)),
-        None => Reply::Unreadable(number),
+    match line.parse::<Vector>() {
+        Ok(vector) => Reply::Answered(answer_to(vector)),
+        Err(_) => Reply::Unreadable(number),
     }
 }
 
 impl fmt::Display for Reply<'_> {
     fn fmt<W: fmt::Write>(&self, f: &mut fmt::Formatter<W>) -> fmt::Result {
-        match *self {
+        match self {
             Reply::Echo(line) => f.write_str(line),
             Reply::Answered(answer) => write!(f, "{answer}"),
             Reply::Unreadable(number) => write!(f, "line {number}: cannot be read"),

@@ -29,39 +29,36 @@ pub struct KeyParts {
     pub embolden: FontEmbolden,
 }
 
-// Twelve fields, and the axis values of a variable font: how many there are, and a place for each of eight; a place that is not used is zero.
-// Keys come from this crate alone, so that this holds of every key and comparing all places compares the values.
-#[derive(Clone, Copy, PartialEq, Eq)]
-pub struct GlyphCacheKey {
-    pub(crate) font_id: u64,
-    pub(crate) font_index: u32,
-    pub(crate) glyph_id: u32,
-    pub(crate) size_bits: u32,
-    pub(crate) hinted: bool,
-    pub(crate) subpixel_x: u8,
-    pub(crate) context_color_packed: u32,
-    pub(crate) embolden_x_bits: u32,
-    pub(crate) embolden_y_bits: u32,
-    pub(crate) embolden_join_bits: u8,
-    pub(crate) embolden_miter_limit_bits: u32,
-    pub(crate) embolden_tolerance_bits: u32,
-    pub(crate) axes: u8,
-    pub(crate) axis0: i16,
-    pub(crate) axis1: i16,
-    pub(crate) axis2: i16,
-    pub(crate) axis3: i16,
-    pub(crate) axis4: i16,
-    pub(crate) axis5: i16,
-    pub(crate) axis6: i16,
-    pub(crate) axis7: i16,
-}
-
 // The numbers of a key as f32 bit patterns.
-#[derive(Clone, Copy)]
+#[derive(Clone, Copy, PartialEq, Eq)]
 pub struct KeyBits {
     pub size: u32,
     pub embolden_x: u32,
     pub embolden_y: u32,
     pub miter_limit: u32,
     pub tolerance: u32,
+}
+
+pub(crate) const MOST_AXES: usize = 8;
+
+// The axis values of a variable font: how many there are, and a place for each of eight; a place that is not used is zero.
+#[derive(Clone, Copy, PartialEq, Eq)]
+pub(crate) struct Axes {
+    pub(crate) count: u8,
+    pub(crate) places: [i16; MOST_AXES],
+}
+
+// What has to agree for two glyphs to share a picture.
+// Keys come from this crate alone, so that the unused places of every key are zero and comparing all places compares the values.
+#[derive(Clone, Copy, PartialEq, Eq)]
+pub struct GlyphCacheKey {
+    pub(crate) font_id: u64,
+    pub(crate) font_index: u32,
+    pub(crate) glyph_id: u32,
+    pub(crate) bits: KeyBits,
+    pub(crate) hinted: bool,
+    pub(crate) subpixel_x: u8,
+    pub(crate) context_color_packed: u32,
+    pub(crate) join: Join,
+    pub(crate) axes: Axes,
 }

@@ -3,6 +3,7 @@
 
 pub mod bucket;
 pub mod fault;
+pub mod join;
 pub mod key;
 pub mod making;
 pub mod reading;

@@ -1,6 +1,5 @@
 // The screen that is a list of at most 512 calls: its fields and their invariant.
 ghost use Rattle.std.specs.Prelude.{◌+◌, ◌≤◌, length};
-ghost use Rattle.lists.specs.Bounds.{held};
 
 use interface::call::Call;
 use interface::state::SavedStates;
@@ -13,5 +12,5 @@ pub struct ListScreen {
     pub(crate) calls: Bounded<Call, 512>,
     pub(crate) states: SavedStates,
     pub(crate) colour: Color,
-    ghost within: { length (held calls) + states.depth ≤ 512 },
+    ghost within: { length calls + states.depth ≤ 512 },
 }

@@ -1,12 +1,11 @@
 -- A page to which commands may be added: it keeps its number, and has places where no page is crowded. Assumes nothing.
 use Rattle.std.proofs.Common.{◌≡◌, ℕ, zero, suc, ◌<◌, Bool, true, false, cond, not, eqb, List, [], ◌∷◌, ◌++◌, map, length, get_or, take, drop, filter, sym, refl, ap, ◌∙◌, arith, rules}
-use Rattle.std.proofs.lemmas.List.{places, length-map, get_or-map, length-take-le}
+use Rattle.std.proofs.lemmas.List.{places, length-map, length-take-le}
 use Rattle.shapes.specs.Answers.{none}
 use Rattle.interface.specs.declared.values.AtlasCommand.{AtlasCommand}
-use Rattle.pages.specs.declared.recorder.AtlasCommandRecorder.{AtlasCommandRecorder}
-use Rattle.pages.specs.Pages.{Page, page_of, with_more}
+use Rattle.pages.specs.Pages.{Page, with_more}
 use Rattle.atlas_pages.specs.AllPages.{add_commands, crowded, any_crowded}
-use Rattle.atlas_pages.proofs.Changing.{changed_to, same_length}
+use Rattle.atlas_pages.proofs.Changing.{changed_to}
 
 by_test : (b : Bool) (cs : List AtlasCommand) (p : Page) → (cond b (with_more p cs) p).number ≡ p.number
 by_test true cs p = refl
@@ -35,10 +34,7 @@ here_unchanged f ps i d h =
     let l : length (map f (take i ps)) ≡ i = length-map (take i ps) f ∙ length-take-le i ps (omega arith) in
     search (rules, places)
 
-pub still_roomy : (f : Page → Page) (xs ys : List AtlasCommandRecorder) (i : ℕ) (x : AtlasCommandRecorder) → i < length ys → map page_of ys ≡ changed_to f xs i → any_crowded (map page_of xs) ≡ false → crowded (page_of (get_or ys i x)) ≡ false
+pub still_roomy : (f : Page → Page) (xs ys : List Page) (i : ℕ) (x : Page) → i < length xs → ys ≡ changed_to f xs i → any_crowded xs ≡ false → crowded (get_or ys i x) ≡ false
 still_roomy f xs ys i x h inv e =
-    let k = same_length f xs ys i inv in
-    let lt : i < length (map page_of xs) = simp length-map (omega arith) in
-    let at : page_of (get_or ys i x) ≡ get_or (map page_of xs) i (page_of x) =
-    sym (get_or-map page_of ys i x (page_of x) h) ∙ ap (λ l. get_or l i (page_of x)) inv ∙ here_unchanged f (map page_of xs) i (page_of x) lt in
-    ap crowded at ∙ none_crowded (map page_of xs) i (page_of x) lt e
+    let at : get_or ys i x ≡ get_or xs i x = ap (λ l. get_or l i x) inv ∙ here_unchanged f xs i x h in
+    ap crowded at ∙ none_crowded xs i x h e

@@ -1,5 +1,4 @@
 -- The four pages of an atlas together. Assumes nothing.
---     pages_in s             the pages, in the order of their numbers
 --     blank n                the page of that number, with no command
 --     crowded p              fewer than 3 of its 120 places are free; any_crowded ps: of some page
 --     add_commands n cs p    the page p, with the commands cs more if its number is n
@@ -10,11 +9,7 @@ use Rattle.shapes.specs.Answers.{none}
 use Rattle.interface.specs.declared.values.AtlasCommand.{AtlasCommand}
 use Rattle.interface.specs.declared.fault.SinkFault.{SinkFault}
 use Rattle.interface.specs.Sinks.{sink_number}
-use Rattle.atlas_pages.specs.declared.set.AtlasPages.{AtlasPages}
-use Rattle.pages.specs.Pages.{Page, page_of, with_more, Offered, UpTo}
-
-abbrev pub pages_in : AtlasPages → List Page
-pages_in s = map page_of s.recorders
+use Rattle.pages.specs.Pages.{Page, with_more, Offered, UpTo}
 
 abbrev pub blank : ℕ → Page
 blank n = record { number = n; commands = [] }

@@ -1,11 +1,24 @@
-// The commands that wait for the four pages of an atlas; a page that its image cache does not have stays empty.
-ghost use Rattle.std.specs.Prelude.{◌≡◌};
-ghost use Rattle.atlas_pages.specs.Sets.{numbers, page_numbers};
-
+// The commands that wait for the four pages of an atlas, seen as the list of these pages; a page that its image cache does not have stays empty.
 use pages::recorder::AtlasCommandRecorder;
+use std::marker::Model;
+
+// Pages of an atlas.
+pub(crate) const PAGES: usize = 4;
 
 #[derive(Drop)]
 pub struct AtlasPages {
-    pub(crate) recorders: [AtlasCommandRecorder; 4],
-    ghost numbered: { numbers recorders ≡ page_numbers },
+    pub(crate) recorders: [AtlasCommandRecorder; PAGES],
+}
+
+// The recorder at each place is that of the page of this number.
+impl Model for AtlasPages {
+    ghost use Rattle.std.specs.Prelude.{◌≡◌, List};
+    ghost use Rattle.pages.specs.Pages.{Page};
+    ghost use Rattle.atlas_pages.specs.Sets.{numbers, page_numbers};
+
+    ghost Value = { List Page };
+
+    ghost view = { λ s. s.recorders };
+
+    ghost invariant = { λ s. numbers s.recorders ≡ page_numbers };
 }

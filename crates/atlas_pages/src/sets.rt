@@ -1,9 +1,10 @@
 // What is done with all four pages. Only `new` asks for memory.
-ghost use Rattle.std.specs.Prelude.{◌≡◌, true, false, [], map, length, IfOk, filter};
+ghost use Rattle.std.specs.Prelude.{◌≡◌, false, map, IfOk};
+ghost use Rattle.std.specs.List.{list_all, list_any};
 ghost use Rattle.shapes.specs.Answers.{none, KeepsRefused};
-ghost use Rattle.pages.specs.Pages.{page_of, emptied, filled};
+ghost use Rattle.pages.specs.Pages.{emptied, filled};
 ghost use Rattle.atlas_pages.specs.Sets.{page_numbers};
-ghost use Rattle.atlas_pages.specs.AllPages.{pages_in, blank, crowded, any_crowded, add_commands, RecordedOn, Offers};
+ghost use Rattle.atlas_pages.specs.AllPages.{blank, crowded, any_crowded, add_commands, RecordedOn, Offers};
 
 use crate::set::AtlasPages;
 use interface::fault::SinkFault;
@@ -12,27 +13,25 @@ use interface::values::AtlasCommand;
 use pages::recorder::AtlasCommandRecorder;
 use pages::target::PageTarget;
 use std::alloc::{AllocError, Global};
+use std::array;
 
+// Commands that are recorded for a page at once.
+const COMMANDS: usize = 3;
+
+// No command waits for any of these pages.
 fn all_idle(recorders: &[AtlasCommandRecorder]) -> bool
-    ensures { result ≡ none (filled (map page_of recorders.now)) }
+    ensures { result ≡ list_all (λ p. none p.commands) recorders.now }
 {
-    for recorder in recorders {
-        if !recorder.is_empty() {
-            return false;
-        }
-    }
-    true
+    recorders.iter().all(|recorder| recorder.is_empty())
 }
 
+// Some of these pages has too few places for commands to be recorded at once.
 fn one_crowded(recorders: &[AtlasCommandRecorder]) -> bool
-    ensures { result ≡ any_crowded (map page_of recorders.now) }
+    ensures { result ≡ list_any crowded recorders.now }
 {
-    for recorder in recorders {
-        if recorder.free_places() < 3 {
-            return true;
-        }
-    }
-    false
+    recorders
+        .iter()
+        .any(|recorder| recorder.free_places() < COMMANDS)
 }
 
 // Offers every page that has a command, up to the first that fails.
@@ -40,7 +39,7 @@ fn offer_to<T: PageTarget>(
     recorders: &[AtlasCommandRecorder],
     target: &mut T,
 ) -> Result<(), T::Failure>
-    ensures { Offers T.PageTarget.takes (filled (map page_of recorders.now)) target.old result target.new }
+    ensures { Offers T.PageTarget.takes (filled recorders.now) target.old result target.new }
 {
     for recorder in recorders {
         if !recorder.is_empty() {
@@ -50,9 +49,9 @@ fn offer_to<T: PageTarget>(
     Ok(())
 }
 
-fn clear_all(recorders: &mut [AtlasCommandRecorder; 4])
-    requires { length recorders.old ≡ 4 }
-    ensures { map page_of recorders.new ≡ map emptied (map page_of recorders.old) }
+// No command waits for these pages any more.
+fn clear_all(recorders: &mut [AtlasCommandRecorder])
+    ensures { recorders.new ≡ map emptied recorders.old }
 {
     for recorder in recorders.iter_mut() {
         recorder.clear();
@@ -60,20 +59,19 @@ fn clear_all(recorders: &mut [AtlasCommandRecorder; 4])
 }
 
 // Adds the commands if it is the page of that number.
-fn add_if(recorder: &mut AtlasCommandRecorder, page: u32, commands: [AtlasCommand; 3])
-    requires { crowded (page_of recorder.old) ≡ false }
-    ensures { page_of recorder.new ≡ add_commands page commands (page_of recorder.old) }
+fn add_if(recorder: &mut AtlasCommandRecorder, page: u32, commands: [AtlasCommand; COMMANDS])
+    requires { crowded recorder.old ≡ false }
+    ensures { recorder.new ≡ add_commands page commands recorder.old }
 {
     if recorder.page() == page {
-        let Ok(()) = recorder.record(&commands) else {
-            unreachable()
-        };
+        recorder.record(&commands).unwrap();
     }
 }
 
-fn add_to(recorders: &mut [AtlasCommandRecorder; 4], page: u32, commands: [AtlasCommand; 3])
-    requires { (length recorders.old ≡ 4) × (any_crowded (map page_of recorders.old) ≡ false) }
-    ensures { map page_of recorders.new ≡ map (add_commands page commands) (map page_of recorders.old) }
+// Adds the commands to the page of that number.
+fn add_to(recorders: &mut [AtlasCommandRecorder], page: u32, commands: [AtlasCommand; COMMANDS])
+    requires { any_crowded recorders.old ≡ false }
+    ensures { recorders.new ≡ map (add_commands page commands) recorders.old }
 {
     for recorder in recorders.iter_mut() {
         add_if(recorder, page, commands);
@@ -82,34 +80,29 @@ fn add_to(recorders: &mut [AtlasCommandRecorder; 4], page: u32, commands: [Atlas
 
 impl AtlasPages {
     pub fn new(heap: Global) -> Result<AtlasPages, AllocError>
-        ensures { IfOk result (λ s. pages_in s ≡ map blank page_numbers) }
+        ensures { IfOk result (λ s. s ≡ map blank page_numbers) }
     {
-        let recorders = [
-            AtlasCommandRecorder::new(heap, 0)?,
-            AtlasCommandRecorder::new(heap, 1)?,
-            AtlasCommandRecorder::new(heap, 2)?,
-            AtlasCommandRecorder::new(heap, 3)?,
-        ];
+        let recorders = array::try_from_fn(|page| AtlasCommandRecorder::new(heap, page as u32))?;
         Ok(AtlasPages { recorders })
     }
 
     // No command waits for any page.
     pub fn is_idle(&self) -> bool
-        ensures { result ≡ none (filled (pages_in self.now)) }
+        ensures { result ≡ none (filled self.now) }
     {
-        all_idle(&self.recorders[..])
+        all_idle(&self.recorders)
     }
 
     // Some page has fewer than 3 of its 120 places free.
     pub fn is_crowded(&self) -> bool
-        ensures { result ≡ any_crowded (pages_in self.now) }
+        ensures { result ≡ any_crowded self.now }
     {
-        one_crowded(&self.recorders[..])
+        one_crowded(&self.recorders)
     }
 
     // Records the commands for the page of that number; refused with 15 where some page is crowded.
-    pub fn record(&mut self, page: u32, commands: [AtlasCommand; 3]) -> Result<(), SinkFault>
-        ensures records { RecordedOn (pages_in self.old) page commands result (pages_in self.new) }
+    pub fn record(&mut self, page: u32, commands: [AtlasCommand; COMMANDS]) -> Result<(), SinkFault>
+        ensures records { RecordedOn self.old page commands result self.new }
         ensures keeps { KeepsRefused result self.old self.new }
     {
         if self.is_crowded() {
@@ -121,15 +114,15 @@ impl AtlasPages {
 
     // Offers every page that has a command, in order, up to the first that fails, and answers its failure.
     pub fn offer_all<T: PageTarget>(&self, target: &mut T) -> Result<(), T::Failure>
-        ensures { Offers T.PageTarget.takes (filled (pages_in self.now)) target.old result target.new }
+        ensures { Offers T.PageTarget.takes (filled self.now) target.old result target.new }
     {
-        offer_to(&self.recorders[..], target)
+        offer_to(&self.recorders, target)
     }
 
     // No command waits any more.
     pub fn clear(&mut self)
-        ensures empties { pages_in self.new ≡ map emptied (pages_in self.old) }
-        ensures blank { pages_in self.new ≡ map blank page_numbers }
+        ensures empties { self.new ≡ map emptied self.old }
+        ensures blank { self.new ≡ map blank page_numbers }
     {
         clear_all(&mut self.recorders);
     }

@@ -3,7 +3,6 @@
 --     list_means l                     the screen l: the calls that its list holds, oldest first
 use Rattle.std.specs.Prelude.{ℕ, ◌-◌, List, length}
 use Rattle.shapes.specs.declared.Color.{Color}
-use Rattle.lists.specs.Bounds.{held}
 use Rattle.interface.specs.declared.call.Call.{Call}
 use Rattle.interface.specs.Sinks.{Sink}
 use Rattle.interface.specs.Slots.{slot_page, slot_place}
@@ -22,4 +21,4 @@ listed cs saved number colour = record {
 }
 
 abbrev pub list_means : ListScreen → Sink
-list_means l = listed (held l.calls) l.states.depth l.states.screen l.colour
+list_means l = listed l.calls l.states.depth l.states.screen l.colour

@@ -1,8 +1,6 @@
 // The list of calls as a sink and as a screen. Only `new` asks for memory.
-ghost use Rattle.std.specs.Prelude.{◌≡◌, ◌+◌, ◌<◌, [], ◌∷◌, ◌++◌, length, IfOk};
-ghost use Rattle.lists.specs.Bounds.{held};
+ghost use Rattle.std.specs.Prelude.{◌≡◌, [], IfOk};
 ghost use Rattle.shapes.specs.Answers.{KeepsRefused};
-ghost use Rattle.shapes.specs.Numbers.{color_of};
 ghost use Rattle.interface.specs.Sinks.{Sent};
 ghost use Rattle.list_screen.specs.Listed.{listed, list_means};
 
@@ -17,34 +15,16 @@ use lists::bounded::Bounded;
 use shapes::{Affine, Color, Path};
 use std::alloc::{AllocError, Global};
 
-// Puts a call at the end of a list that has a place for it.
-fn put(calls: &mut Bounded<Call, 512>, call: Call)
-    requires { length (held calls.old) < 512 }
-    ensures items { held calls.new ≡ held calls.old ++ call ∷ [] }
-    ensures len { length (held calls.new) ≡ length (held calls.old) + 1 }
-{
-    let Ok(()) = calls.push(call) else {
-        unreachable()
-    };
-}
-
 impl ListScreen {
-    // A screen with a number of its own, and a colour by its bit patterns: red, green, blue, alpha.
-    pub fn new(
-        heap: Global,
-        number: u32,
-        r: u32,
-        g: u32,
-        b: u32,
-        a: u32,
-    ) -> Result<ListScreen, AllocError>
-        ensures { IfOk result (λ l. list_means l ≡ listed [] 0 number (color_of r g b a)) }
+    // A screen with a number of its own, and a colour.
+    pub fn new(heap: Global, number: u32, colour: Color) -> Result<ListScreen, AllocError>
+        ensures { IfOk result (λ l. list_means l ≡ listed [] 0 number colour) }
     {
         let calls = Bounded::new(heap)?;
         Ok(ListScreen {
             calls,
             states: SavedStates::new(number),
-            colour: Color::from_bits(r, g, b, a),
+            colour,
         })
     }
 
@@ -58,7 +38,7 @@ impl ListScreen {
     fn free(&self) -> usize
         ensures { result ≡ (list_means self.now).free }
     {
-        512 - self.calls.len() - self.states.depth() as usize
+        self.calls.free_places() - self.states.depth() as usize
     }
 
     fn append(&mut self, call: Call) -> Result<(), SinkFault>
@@ -68,7 +48,7 @@ impl ListScreen {
         if self.free() == 0 {
             return Err(SinkFault::NoPlace);
         }
-        put(&mut self.calls, call);
+        self.calls.push(call).unwrap();
         Ok(())
     }
 }
@@ -91,16 +71,13 @@ impl GlyphRenderer for ListScreen {
         if self.free() < 2 {
             return Err(SinkFault::NoPlace);
         }
-        put(&mut self.calls, Call::SaveState);
-        match self.states.issue() {
-            Ok(state) => Ok(state),
-            Err(_) => unreachable(),
-        }
+        self.calls.push(Call::SaveState).unwrap();
+        Ok(self.states.issue().unwrap())
     }
 
     fn restore_state(&mut self, state: SavedState) -> Result<(), RestoreRefused> {
         self.states.take_back(state)?;
-        put(&mut self.calls, Call::RestoreState);
+        self.calls.push(Call::RestoreState).unwrap();
         Ok(())
     }
 

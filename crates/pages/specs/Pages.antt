@@ -1,6 +1,5 @@
 -- Pages of commands, and what page targets do with them. Assumes nothing.
 --     Page                  its number and the commands that wait for it, oldest first
---     page_of r             the page of a recorder
 --     emptied p             the page without its commands
 --     with_more p cs        the page with the commands cs more, after those that it has
 --     Recorded p cs r q     the commands cs recorded for the page p, which has 120 places and is q after it
@@ -12,19 +11,14 @@
 use Rattle.std.specs.Prelude.{◌≡◌, ℕ, ◌+◌, ◌-◌, ◌^◌, ◌<◌, ◌≤◌, min, Bool, true, false, not, ◌⊎◌, List, [], ◌∷◌, ◌++◌, map, length, Ok, Err, filter, Result}
 use Rattle.std.specs.declared.convert.Infallible.{Infallible}
 use Rattle.shapes.specs.Answers.{none}
-use Rattle.lists.specs.Bounds.{held}
 use Rattle.interface.specs.declared.values.AtlasCommand.{AtlasCommand}
 use Rattle.interface.specs.declared.fault.SinkFault.{SinkFault}
 use Rattle.interface.specs.declared.call.Call.TheVariants.{Command}
 use Rattle.interface.specs.Sinks.{Sink, Extended, sink_number}
-use Rattle.pages.specs.declared.recorder.AtlasCommandRecorder.{AtlasCommandRecorder}
 
 pub record Page : Type 0 where
   pub number : ℕ
   pub commands : List AtlasCommand
-
-abbrev pub page_of : AtlasCommandRecorder → Page
-page_of r = record { number = r.page; commands = held r.commands }
 
 abbrev pub emptied : Page → Page
 emptied p = record { number = p.number; commands = [] }

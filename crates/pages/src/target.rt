@@ -1,6 +1,6 @@
 // Whoever takes the commands of a page.
 ghost use Rattle.std.specs.Prelude.{Result as Answer};
-ghost use Rattle.pages.specs.Pages.{Page, page_of};
+ghost use Rattle.pages.specs.Pages.{Page};
 
 use crate::recorder::AtlasCommandRecorder;
 
@@ -11,5 +11,5 @@ pub trait PageTarget {
     ghost takes: { Self → Page → Answer (Unit {0}) Self.Failure → Self → Type 0 };
 
     fn offer(&mut self, page: &AtlasCommandRecorder) -> Result<(), Self::Failure>
-        ensures { takes self.old (page_of page.now) result self.new };
+        ensures { takes self.old page.now result self.new };
 }

@@ -23,9 +23,7 @@ fn send_all<S: DrawSink>(sink: &mut S, commands: &[AtlasCommand])
     ensures { Extended (S.DrawSink.means sink.old) (map Command commands.now) (S.DrawSink.means sink.new) }
 {
     for command in commands {
-        let Ok(()) = sink.send(*command) else {
-            unreachable()
-        };
+        sink.send(*command).unwrap();
     }
 }
 

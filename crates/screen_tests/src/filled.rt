@@ -1,24 +1,18 @@
 // The list of calls and the page recorder, filled to the last place and asked for one more.
+use crate::screens;
 use interface::fault::SinkFault;
 use interface::sink::{DrawSink, GlyphRenderer};
-use list_screen::screen::ListScreen;
 use pages::recorder::AtlasCommandRecorder;
 use std::test::Fail;
 
 // Pops until the sink refuses, at most so often, and says how many were taken.
 fn pops<S: DrawSink>(sink: &mut S, most: usize) -> usize {
-    let mut taken = 0usize;
-    for _ in 0..most {
-        if sink.pop_layer().is_ok() {
-            taken = taken.saturating_add(1);
-        }
-    }
-    taken
+    (0..most).take_while(|_| sink.pop_layer().is_ok()).count()
 }
 
 #[test]
 fn five_hundred_and_twelve_calls(rt: HostRuntime) -> Result<(), Fail> {
-    let mut screen = ListScreen::new(rt.alloc(), 7, 0, 0, 0, 0)?;
+    let mut screen = screens::numbered(rt.alloc(), 7)?;
     assert_eq!(rt; screen.free_places(), 512);
     assert_eq!(rt; pops(&mut screen, 600), 512);
     assert_eq!(rt; screen.free_places(), 0);

@@ -4,6 +4,8 @@
 #[cfg(test)]
 mod filled;
 #[cfg(test)]
+mod screens;
+#[cfg(test)]
 mod states;
 #[cfg(test)]
 mod targets;

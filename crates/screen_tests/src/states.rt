@@ -1,8 +1,8 @@
 // Saved states given back to another screen, and out of order. A state cannot be let go, so that each refusal is followed by giving it back where it belongs; that this cannot be
 // refused is proved.
+use crate::screens;
 use interface::sink::{DrawSink, GlyphRenderer};
 use interface::state::RestoreRefused;
-use list_screen::screen::ListScreen;
 use shapes::refusal::Refusal;
 use std::test::Fail;
 
@@ -11,22 +11,16 @@ fn given_to_another<S: GlyphRenderer, T: GlyphRenderer>(
     first: &mut S,
     second: &mut T,
 ) -> Option<u8> {
-    let Ok(state) = first.save_state() else {
-        return None;
-    };
-    match second.restore_state(state) {
-        Ok(()) => None,
-        Err(RestoreRefused { state, fault }) => match first.restore_state(state) {
-            Ok(()) => Some(fault.number()),
-            Err(_) => unreachable(),
-        },
-    }
+    let state = first.save_state().ok()?;
+    let RestoreRefused { state, fault } = second.restore_state(state).err()?;
+    first.restore_state(state).unwrap();
+    Some(fault.number())
 }
 
 #[test]
 fn another_screen(rt: HostRuntime) -> Result<(), Fail> {
-    let mut first = ListScreen::new(rt.alloc(), 1, 0, 0, 0, 0)?;
-    let mut second = ListScreen::new(rt.alloc(), 2, 0, 0, 0, 0)?;
+    let mut first = screens::numbered(rt.alloc(), 1)?;
+    let mut second = screens::numbered(rt.alloc(), 2)?;
     assert_eq!(rt; given_to_another(&mut first, &mut second), Some(10));
     assert_eq!(rt; first.free_places(), 510);
     assert_eq!(rt; second.free_places(), 512);
@@ -35,41 +29,28 @@ fn another_screen(rt: HostRuntime) -> Result<(), Fail> {
 
 #[test]
 fn another_screen_of_the_same_number(rt: HostRuntime) -> Result<(), Fail> {
-    let mut first = ListScreen::new(rt.alloc(), 1, 0, 0, 0, 0)?;
-    let mut second = ListScreen::new(rt.alloc(), 1, 0, 0, 0, 0)?;
+    let mut first = screens::numbered(rt.alloc(), 1)?;
+    let mut second = screens::numbered(rt.alloc(), 1)?;
     assert_eq!(rt; given_to_another(&mut first, &mut second), Some(10));
     Ok(())
 }
 
 // Saves twice, and gives the first state back before the second: the number with which that is refused, if it is.
 fn out_of_order<S: GlyphRenderer>(screen: &mut S) -> Option<u8> {
-    let Ok(outer) = screen.save_state() else {
+    let outer = screen.save_state().ok()?;
+    let Ok(inner) = screen.save_state() else {
+        screen.restore_state(outer).unwrap();
         return None;
     };
-    match screen.save_state() {
-        Ok(inner) => match screen.restore_state(outer) {
-            Ok(()) => unreachable(),
-            Err(RestoreRefused { state, fault }) => {
-                match screen.restore_state(inner) {
-                    Ok(()) => {}
-                    Err(_) => unreachable(),
-                }
-                match screen.restore_state(state) {
-                    Ok(()) => Some(fault.number()),
-                    Err(_) => unreachable(),
-                }
-            }
-        },
-        Err(_) => match screen.restore_state(outer) {
-            Ok(()) => None,
-            Err(_) => unreachable(),
-        },
-    }
+    let RestoreRefused { state, fault } = screen.restore_state(outer).unwrap_err();
+    screen.restore_state(inner).unwrap();
+    screen.restore_state(state).unwrap();
+    Some(fault.number())
 }
 
 #[test]
 fn the_outer_state_first(rt: HostRuntime) -> Result<(), Fail> {
-    let mut screen = ListScreen::new(rt.alloc(), 1, 0, 0, 0, 0)?;
+    let mut screen = screens::numbered(rt.alloc(), 1)?;
     assert_eq!(rt; out_of_order(&mut screen), Some(10));
     assert_eq!(rt; screen.calls().len(), 4);
     Ok(())

@@ -13,9 +13,9 @@ fn a_sink_with_two_places(rt: HostRuntime) -> Result<(), Fail> {
     for _ in 0..118 {
         assert!(rt; sink.pop_layer().is_ok());
     }
-    assert!(rt; page.pop_layer().is_ok());
-    assert!(rt; page.pop_layer().is_ok());
-    assert!(rt; page.pop_layer().is_ok());
+    for _ in 0..3 {
+        assert!(rt; page.pop_layer().is_ok());
+    }
     let mut target = SinkTarget { sink: &mut sink };
     match target.offer(&page) {
         Ok(()) => return Err(Fail::new("three commands into two places")),

@@ -1,6 +1,6 @@
 // Calls as records: the payload's length and the kind, two bytes each, and the payload.
 ghost use Rattle.std.specs.Prelude.{◌≡◌};
-ghost use Rattle.stream_screen.specs.Stream.{command_kind, kind_of, command_payload, payload_of, record_of};
+ghost use Rattle.stream_screen.specs.Stream.{command_kind, kind_of, command_payload, payload_of, place, record_of};
 ghost use Rattle.stream_screen.specs.Writes.{Room, Wrote};
 
 use crate::encode::Encode;
@@ -73,9 +73,9 @@ impl Encode for Call {
 }
 
 impl<'a> Writer<'a> {
-    // The payload's length stands before the payload, and is known after it. No record is longer than 52 bytes.
+    // The payload's length stands before the payload, and is known after it.
     pub(crate) fn put_call(&mut self, call: Call)
-        requires { Room 52 self.old }
+        requires { Room place self.old }
         ensures { Wrote (record_of call) self.old self.new }
     {
         let start = self.used;

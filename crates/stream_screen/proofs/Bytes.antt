@@ -1,8 +1,8 @@
 -- One write after another, a list of values written one by one, and bytes written over.
-use Rattle.std.proofs.Common.{◌≡◌, ℕ, ◌+◌, ◌<◌, ◌≤◌, List, [], ◌∷◌, ◌++◌, length, get_or, take, drop, flat_map, sym, ap, ◌∙◌, subst, append_assoc, arith, length-append, take-append-drop}
+use Rattle.std.proofs.Common.{◌≡◌, ℕ, ◌+◌, ◌<◌, ◌≤◌, List, [], ◌++◌, length, get_or, take, drop, flat_map, sym, ap, ◌∙◌, subst, append_assoc, arith, length-append, take-append-drop}
 use Rattle.std.proofs.lemmas.List.{take_more, take_all, take_at, drop_at, flat_map_more, length-take-le}
 use Rattle.std.proofs.lemmas.List.Folds.{length-flat_map-take}
-use borrow.Rule.Slice.PartMut.{put_mid, same_len_mid}
+use borrow.Rule.Slice.PartMut.{put_mid}
 use Rattle.stream_screen.specs.Writes.{WroteIn}
 
 pub wrote_both : {xs ys o p q : List ℕ} {i j k : ℕ} → WroteIn xs o i p j → WroteIn ys p j q k → WroteIn (xs ++ ys) o i q k

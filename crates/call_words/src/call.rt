@@ -1,54 +1,36 @@
-// All calls of a screen in words.
-use crate::command::{named_path, write_command};
-use crate::numbers::write_color;
-use interface::call::{Call, Picture};
-use interface::values::ImageQuality;
-use shapes::Color;
+// The eleven commands, and all calls of a screen, in words.
+use crate::Words;
+use interface::call::Call;
+use interface::values::AtlasCommand;
 use std::fmt;
 
-fn quality_name(quality: ImageQuality) -> &'static str {
-    match quality {
-        ImageQuality::Low => "low",
-        ImageQuality::Medium => "medium",
-    }
-}
-
-fn write_picture<W: fmt::Write>(f: &mut fmt::Formatter<W>, picture: Picture) -> fmt::Result {
-    match picture {
-        Picture::PixmapHandle(handle, quality) => {
-            let name = quality_name(quality);
-            write!(f, "image pixmap {handle} {name}")
-        }
-        Picture::AtlasPage(page, quality) => {
-            let name = quality_name(quality);
-            write!(f, "image atlas {page} {name}")
-        }
-    }
-}
-
-fn write_tint<W: fmt::Write>(f: &mut fmt::Formatter<W>, tint: Option<Color>) -> fmt::Result {
-    match tint {
-        Some(color) => {
-            f.write_str("tint mask")?;
-            write_color(f, color)
-        }
-        None => f.write_str("tint none"),
-    }
-}
-
-// A call, to be shown in words.
-#[derive(Clone, Copy)]
-pub struct CallWords(pub Call);
-
-impl fmt::Display for CallWords {
+impl fmt::Display for Words<AtlasCommand> {
     fn fmt<W: fmt::Write>(&self, f: &mut fmt::Formatter<W>) -> fmt::Result {
         match self.0 {
-            Call::Command(command) => write_command(f, command),
+            AtlasCommand::SetTransform(t) => write!(f, "transform {}", Words(t)),
+            AtlasCommand::SetPaint(paint) => write!(f, "paint {}", Words(paint)),
+            AtlasCommand::SetPaintTransform(t) => write!(f, "paint_transform {}", Words(t)),
+            AtlasCommand::FillPath(path) => write!(f, "fill_path {}", Words(path)),
+            AtlasCommand::FillRect(rect) => write!(f, "fill_rect {}", Words(rect)),
+            AtlasCommand::PushClipLayer(clip) => write!(f, "clip_layer {}", Words(clip)),
+            AtlasCommand::PushClipPath(clip) => write!(f, "clip_path {}", Words(clip)),
+            AtlasCommand::PushClipRect(clip) => write!(f, "clip_rect {}", Words(clip)),
+            AtlasCommand::PushBlendLayer(blend) => write!(f, "blend {}", Words(blend)),
+            AtlasCommand::PopLayer => f.write_str("pop_layer"),
+            AtlasCommand::PopClipPath => f.write_str("pop_clip_path"),
+        }
+    }
+}
+
+impl fmt::Display for Words<Call> {
+    fn fmt<W: fmt::Write>(&self, f: &mut fmt::Formatter<W>) -> fmt::Result {
+        match self.0 {
+            Call::Command(command) => write!(f, "{}", Words(command)),
             Call::SaveState => f.write_str("save"),
             Call::RestoreState => f.write_str("restore"),
-            Call::StrokePath(path) => named_path(f, "stroke_path", path),
-            Call::SetPaintImage(picture) => write_picture(f, picture),
-            Call::SetTint(tint) => write_tint(f, tint),
+            Call::StrokePath(path) => write!(f, "stroke_path {}", Words(path)),
+            Call::SetPaintImage(picture) => write!(f, "image {}", Words(picture)),
+            Call::SetTint(tint) => write!(f, "tint {}", Words(tint)),
         }
     }
 }

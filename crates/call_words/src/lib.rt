@@ -2,6 +2,12 @@
 // one pattern.
 #![tactic(auto)]
 
-pub mod call;
-pub mod command;
-pub mod numbers;
+mod call;
+mod numbers;
+#[cfg(test)]
+mod tests;
+mod values;
+
+// A call, a command or a value that one carries, to be shown in words.
+#[derive(Clone, Copy)]
+pub struct Words<T>(pub T);

@@ -1,5 +1,5 @@
 -- A call's payload, read back, is the call.
-use Rattle.std.proofs.Common.{◌≡◌, ℕ, zero, suc, ◌/◌, ◌^◌, ◌<◌, T, List, [], ◌∷◌, Some, None, Option, refl, ap, ◌∙◌, pow-suc, arith}
+use Rattle.std.proofs.Common.{◌≡◌, ℕ, zero, suc, ◌/◌, ◌^◌, ◌<◌, T, [], ◌∷◌, Some, None, Option, refl, ap, ◌∙◌, pow-suc, arith}
 use lib.Ieee.{Float, binary32, binary64, to_bits, of_bits, fits}
 use lib.Ieee.Bits.{of_bits-to_bits, to_bits-lt}
 use Rattle.shapes.specs.declared.Affine.{Affine}
@@ -31,76 +31,63 @@ f64_back x h = ap (of_bits binary64) (number_back 8 (to_bits binary64 x) (to_bit
 f32_back : (x : Float) → T (fits binary32 x) → of_bits binary32 (number_of (f32_bytes x)) ≡ x
 f32_back x h = ap (of_bits binary32) (number_back 4 (to_bits binary32 x) (to_bits-lt binary32 x h)) ∙ of_bits-to_bits binary32 x h
 
-abbrev affine_of : (a b c d e f : Float) → Affine
-affine_of a b c d e f = record { a = a; b = b; c = c; d = d; e = e; f = f }
-
-affine_same : {a a' b b' c c' d d' e e' f f' : Float} → a ≡ a' → b ≡ b' → c ≡ c' → d ≡ d' → e ≡ e' → f ≡ f' → affine_of a b c d e f ≡ affine_of a' b' c' d' e' f'
-affine_same p q r s t u = cc
-
 affine_back : (t : Affine) → FitsAffine t → affine_at (affine_bytes t) ≡ t
-affine_back t h =
-    affine_same (f64_back t.a h.a_fits) (f64_back t.b h.b_fits) (f64_back t.c h.c_fits) (f64_back t.d h.d_fits) (f64_back t.e h.e_fits) (f64_back t.f h.f_fits)
-
-abbrev rect_of : (x0 y0 x1 y1 : Float) → Rect
-rect_of x0 y0 x1 y1 = record { x0 = x0; y0 = y0; x1 = x1; y1 = y1 }
-
-rect_same : {a a' b b' c c' d d' : Float} → a ≡ a' → b ≡ b' → c ≡ c' → d ≡ d' → rect_of a b c d ≡ rect_of a' b' c' d'
-rect_same p q r s = cc
+affine_back t h = λ i. record {
+  a = f64_back t.a h.a_fits i;
+  b = f64_back t.b h.b_fits i;
+  c = f64_back t.c h.c_fits i;
+  d = f64_back t.d h.d_fits i;
+  e = f64_back t.e h.e_fits i;
+  f = f64_back t.f h.f_fits i;
+}
 
 rect_back : (r : Rect) → FitsRect r → rect_at (rect_bytes r) 0 ≡ r
-rect_back r h =
-    rect_same (f64_back r.x0 h.x0_fits) (f64_back r.y0 h.y0_fits) (f64_back r.x1 h.x1_fits) (f64_back r.y1 h.y1_fits)
-
-abbrev path_of : ℕ → Rect → Path
-path_of h r = record { handle = h; bounds = r }
-
-path_same : {h h' : ℕ} {r r' : Rect} → h ≡ h' → r ≡ r' → path_of h r ≡ path_of h' r'
-path_same p q = cc
+rect_back r h = λ i. record {
+  x0 = f64_back r.x0 h.x0_fits i;
+  y0 = f64_back r.y0 h.y0_fits i;
+  x1 = f64_back r.x1 h.x1_fits i;
+  y1 = f64_back r.y1 h.y1_fits i;
+}
 
 path_back : (p : Path) → FitsPath p → path_at (path_bytes p) ≡ p
-path_back p h = path_same (number_back 4 p.handle h.handle_fits) (rect_back p.bounds h.bounds_fit)
-
-abbrev color_with : (r g b a : Float) → Color
-color_with r g b a = record { r = r; g = g; b = b; a = a }
-
-color_same : {r r' g g' b b' a a' : Float} → r ≡ r' → g ≡ g' → b ≡ b' → a ≡ a' → color_with r g b a ≡ color_with r' g' b' a'
-color_same p q r s = cc
+path_back p h = λ i. record { handle = number_back 4 p.handle h.handle_fits i; bounds = rect_back p.bounds h.bounds_fit i }
 
 color_back : (c : Color) → FitsColor c → color_at (color_bytes c) 0 ≡ c
-color_back c h =
-    color_same (f32_back c.r h.r_fits) (f32_back c.g h.g_fits) (f32_back c.b h.b_fits) (f32_back c.a h.a_fits)
+color_back c h = λ i. record {
+  r = f32_back c.r h.r_fits i;
+  g = f32_back c.g h.g_fits i;
+  b = f32_back c.b h.b_fits i;
+  a = f32_back c.a h.a_fits i;
+}
 
 paint_back : (p : AtlasPaint) → FitsPaint p → paint_at (paint_bytes p) ≡ p
 paint_back (Solid c) h = ap Solid (color_back c h)
 paint_back (Gradient g) h = ap Gradient (number_back 4 g h)
 
-picture_back : (i : Picture) → FitsPicture i → picture_at (picture_bytes i) ≡ i
-picture_back (PixmapHandle n Low) h = ap (λ m. PixmapHandle m Low) (number_back 4 n h)
-picture_back (PixmapHandle n Medium) h = ap (λ m. PixmapHandle m Medium) (number_back 4 n h)
-picture_back (AtlasPage n Low) h = ap (λ m. AtlasPage m Low) (number_back 4 n h)
-picture_back (AtlasPage n Medium) h = ap (λ m. AtlasPage m Medium) (number_back 4 n h)
+picture_back : (m : Picture) → FitsPicture m → picture_at (picture_bytes m) ≡ m
+picture_back (PixmapHandle n Low) h = λ i. PixmapHandle (number_back 4 n h i) Low
+picture_back (PixmapHandle n Medium) h = λ i. PixmapHandle (number_back 4 n h i) Medium
+picture_back (AtlasPage n Low) h = λ i. AtlasPage (number_back 4 n h i) Low
+picture_back (AtlasPage n Medium) h = λ i. AtlasPage (number_back 4 n h i) Medium
 
 tint_back : (t : Option Color) → FitsTint t → tint_at (tint_bytes t) ≡ t
 tint_back None h = refl
 tint_back (Some c) h = ap Some (color_back c h)
 
-alone : {x y : Call} → x ≡ y → ◌≡◌ {A = List Call} (x ∷ []) (y ∷ [])
-alone e = cc
-
 pub call_back : (c : Call) → FitsCall c → call_of (kind_of c) (payload_of c) ≡ c ∷ []
-call_back (Command (SetTransform t)) h = alone (ap (λ v. Command (SetTransform v)) (affine_back t h))
-call_back (Command (SetPaint p)) h = alone (ap (λ v. Command (SetPaint v)) (paint_back p h))
-call_back (Command (SetPaintTransform t)) h = alone (ap (λ v. Command (SetPaintTransform v)) (affine_back t h))
-call_back (Command (FillPath p)) h = alone (ap (λ v. Command (FillPath v)) (path_back p h))
-call_back (Command (FillRect r)) h = alone (ap (λ v. Command (FillRect v)) (rect_back r h))
-call_back (Command (PushClipLayer p)) h = alone (ap (λ v. Command (PushClipLayer v)) (path_back p h))
-call_back (Command (PushClipPath p)) h = alone (ap (λ v. Command (PushClipPath v)) (path_back p h))
-call_back (Command (PushClipRect r)) h = alone (ap (λ v. Command (PushClipRect v)) (rect_back r h))
+call_back (Command (SetTransform t)) h = λ i. Command (SetTransform (affine_back t h i)) ∷ []
+call_back (Command (SetPaint p)) h = λ i. Command (SetPaint (paint_back p h i)) ∷ []
+call_back (Command (SetPaintTransform t)) h = λ i. Command (SetPaintTransform (affine_back t h i)) ∷ []
+call_back (Command (FillPath p)) h = λ i. Command (FillPath (path_back p h i)) ∷ []
+call_back (Command (FillRect r)) h = λ i. Command (FillRect (rect_back r h i)) ∷ []
+call_back (Command (PushClipLayer p)) h = λ i. Command (PushClipLayer (path_back p h i)) ∷ []
+call_back (Command (PushClipPath p)) h = λ i. Command (PushClipPath (path_back p h i)) ∷ []
+call_back (Command (PushClipRect r)) h = λ i. Command (PushClipRect (rect_back r h i)) ∷ []
 call_back (Command (PushBlendLayer b)) h = refl
 call_back (Command PopLayer) h = refl
 call_back (Command PopClipPath) h = refl
 call_back SaveState h = refl
 call_back RestoreState h = refl
-call_back (StrokePath p) h = alone (ap StrokePath (path_back p h))
-call_back (SetPaintImage i) h = alone (ap SetPaintImage (picture_back i h))
-call_back (SetTint t) h = alone (ap SetTint (tint_back t h))
+call_back (StrokePath p) h = λ i. StrokePath (path_back p h i) ∷ []
+call_back (SetPaintImage m) h = λ i. SetPaintImage (picture_back m h i) ∷ []
+call_back (SetTint t) h = λ i. SetTint (tint_back t h i) ∷ []

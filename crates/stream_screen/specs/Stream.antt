@@ -1,6 +1,7 @@
 -- Calls as bytes: a record is the payload's length and the kind, two bytes each, and then the payload. Assumes nothing.
 --     stream_of cs     the records of the calls cs, one after the other
 --     record_of c      the record of the call c
+--     place            the bytes of a place, 52: no record is longer
 --     kind_of c        the number of its kind, 1 to 16
 --     payload_of c     the bytes of what it carries
 --     bytes_of k n     the number n in k bytes, the lowest first; f32_bytes, f64_bytes: of its bit pattern, every NaN by one pattern
@@ -112,6 +113,9 @@ framed k p = bytes_of 2 (length p) ++ bytes_of 2 k ++ p
 
 abbrev pub record_of : Call → List ℕ
 record_of c = framed (kind_of c) (payload_of c)
+
+abbrev pub place : ℕ
+place = 52
 
 abbrev pub stream_of : List Call → List ℕ
 stream_of [] = []

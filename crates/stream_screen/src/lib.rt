@@ -1,6 +1,7 @@
 // A screen that writes its calls as bytes into a lent buffer.
 #![tactic(auto)]
 
+mod encode;
 pub mod makes;
 mod numbers;
 mod records;

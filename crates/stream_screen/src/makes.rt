@@ -1,12 +1,11 @@
 // A new screen, what it has written, and how a call is added.
-ghost use Rattle.std.specs.Prelude.{◌≡◌, ◌+◌, ◌*◌, ◌/◌, ◌^◌, ◌<◌, ◌≤◌, length};
+ghost use Rattle.std.specs.Prelude.{◌≡◌, ◌+◌, ◌*◌, ◌^◌, ◌<◌, ◌≤◌, length};
 ghost use Rattle.shapes.specs.Answers.{KeepsRefused};
-ghost use Rattle.shapes.specs.Numbers.{color_of};
 ghost use Rattle.interface.specs.Sinks.{Sent};
-ghost use Rattle.stream_screen.specs.Stream.{stream_of};
+ghost use Rattle.stream_screen.specs.Stream.{place, stream_of};
 ghost use Rattle.stream_screen.specs.Means.{stream_means, new_screen, Added};
 
-use crate::screen::StreamScreen;
+use crate::screen::{PLACE, StreamScreen};
 use crate::writer::Writer;
 use interface::call::Call;
 use interface::fault::SinkFault;
@@ -14,15 +13,15 @@ use interface::state::SavedStates;
 use shapes::Color;
 
 impl<'a> StreamScreen<'a> {
-    // From the screen's number, and the bit patterns of its colour.
-    pub fn new(out: &'a mut [u8], number: u32, r: u32, g: u32, b: u32, a: u32) -> StreamScreen<'a>
-        ensures means { stream_means result ≡ new_screen (length out.old) number (color_of r g b a) }
+    // From the screen's number and its colour.
+    pub fn new(out: &'a mut [u8], number: u32, colour: Color) -> StreamScreen<'a>
+        ensures means { stream_means result ≡ new_screen (length out.old) number colour }
         ensures lent { result.writer.out.ghost_name ≡ out.entry.ghost_name }
     {
         StreamScreen {
             writer: Writer { out, used: 0 },
             states: SavedStates::new(number),
-            colour: Color::from_bits(r, g, b, a),
+            colour,
         }
     }
 
@@ -30,19 +29,18 @@ impl<'a> StreamScreen<'a> {
     pub fn bytes(&self) -> &[u8]
         ensures { result.now ≡ stream_of (stream_means self.now).calls }
     {
-        &self.writer.out[0..self.writer.used]
+        &self.writer.out[..self.writer.used]
     }
 
-    // A place is 52 bytes, the length of the longest record.
     pub(crate) fn free(&self) -> usize
         ensures free { result ≡ (stream_means self.now).free }
         ensures few { (stream_means self.now).saved < 2 ^ 63 }
     {
-        (self.writer.out.len() - self.writer.used) / 52 - self.states.depth() as usize
+        (self.writer.out.len() - self.writer.used) / PLACE - self.states.depth() as usize
     }
 
     pub(crate) fn append(&mut self, call: Call)
-        requires { self.old.writer.used + 52 * self.old.states.depth + 52 ≤ length self.old.writer.out.now }
+        requires { self.old.writer.used + place * self.old.states.depth + place ≤ length self.old.writer.out.now }
         ensures { Added self.old call self.new }
     {
         self.writer.put_call(call);

@@ -1,11 +1,12 @@
 // Calls as records: the payload's length and the kind, two bytes each, and the payload.
-ghost use Rattle.std.specs.Prelude.{◌≡◌, length};
-ghost use Rattle.stream_screen.specs.Stream.{command_kind, kind_of, paint_bytes, picture_bytes, tint_bytes, command_payload, payload_of, record_of};
-ghost use Rattle.stream_screen.specs.Writes.{Room, Wrote, FitsCommand, FitsCall};
+ghost use Rattle.std.specs.Prelude.{◌≡◌};
+ghost use Rattle.stream_screen.specs.Stream.{command_kind, kind_of, command_payload, payload_of, place, record_of};
+ghost use Rattle.stream_screen.specs.Writes.{Room, Wrote};
 
+use crate::encode::Encode;
 use crate::writer::Writer;
 use interface::call::Call;
-use interface::values::{AtlasCommand, AtlasPaint};
+use interface::values::AtlasCommand;
 
 fn command_kind(command: AtlasCommand) -> u16
     ensures { result ≡ command_kind command }
@@ -38,83 +39,49 @@ fn kind(call: Call) -> u16
     }
 }
 
-fn command_length(command: AtlasCommand) -> u16
-    ensures { result ≡ length (command_payload command) }
-{
-    match command {
-        AtlasCommand::SetTransform(_) => 48,
-        AtlasCommand::SetPaint(AtlasPaint::Solid(_)) => 17,
-        AtlasCommand::SetPaint(AtlasPaint::Gradient(_)) => 5,
-        AtlasCommand::SetPaintTransform(_) => 48,
-        AtlasCommand::FillPath(_) => 36,
-        AtlasCommand::FillRect(_) => 32,
-        AtlasCommand::PushClipLayer(_) => 36,
-        AtlasCommand::PushClipPath(_) => 36,
-        AtlasCommand::PushClipRect(_) => 32,
-        AtlasCommand::PushBlendLayer(_) => 2,
-        AtlasCommand::PopLayer => 0,
-        AtlasCommand::PopClipPath => 0,
+// What a command carries.
+impl Encode for AtlasCommand {
+    ghost bytes = { command_payload };
+
+    fn encode(self, writer: &mut Writer) {
+        match self {
+            AtlasCommand::SetTransform(t) | AtlasCommand::SetPaintTransform(t) => t.encode(writer),
+            AtlasCommand::SetPaint(paint) => paint.encode(writer),
+            AtlasCommand::FillPath(path)
+            | AtlasCommand::PushClipLayer(path)
+            | AtlasCommand::PushClipPath(path) => path.encode(writer),
+            AtlasCommand::FillRect(rect) | AtlasCommand::PushClipRect(rect) => rect.encode(writer),
+            AtlasCommand::PushBlendLayer(blend) => blend.encode(writer),
+            AtlasCommand::PopLayer | AtlasCommand::PopClipPath => {}
+        }
     }
 }
 
-fn payload_length(call: Call) -> u16
-    ensures { result ≡ length (payload_of call) }
-{
-    match call {
-        Call::Command(command) => command_length(command),
-        Call::SaveState => 0,
-        Call::RestoreState => 0,
-        Call::StrokePath(_) => 36,
-        Call::SetPaintImage(_) => 6,
-        Call::SetTint(None) => 1,
-        Call::SetTint(Some(_)) => 17,
+// What a call carries: the payload of its record.
+impl Encode for Call {
+    ghost bytes = { payload_of };
+
+    fn encode(self, writer: &mut Writer) {
+        match self {
+            Call::Command(command) => command.encode(writer),
+            Call::SaveState | Call::RestoreState => {}
+            Call::StrokePath(path) => path.encode(writer),
+            Call::SetPaintImage(picture) => picture.encode(writer),
+            Call::SetTint(tint) => tint.encode(writer),
+        }
     }
 }
 
 impl<'a> Writer<'a> {
-    fn put_command(&mut self, command: AtlasCommand)
-        requires { Room (length (command_payload command)) self.old }
-        ensures wrote { Wrote (command_payload command) self.old self.new }
-        ensures fits { FitsCommand command }
-    {
-        match command {
-            AtlasCommand::SetTransform(t) => self.put_affine(t),
-            AtlasCommand::SetPaint(paint) => self.put_paint(paint),
-            AtlasCommand::SetPaintTransform(t) => self.put_affine(t),
-            AtlasCommand::FillPath(path) => self.put_path(path),
-            AtlasCommand::FillRect(rect) => self.put_rect(rect),
-            AtlasCommand::PushClipLayer(clip) => self.put_path(clip),
-            AtlasCommand::PushClipPath(clip) => self.put_path(clip),
-            AtlasCommand::PushClipRect(clip) => self.put_rect(clip),
-            AtlasCommand::PushBlendLayer(blend) => self.put_blend(blend),
-            AtlasCommand::PopLayer => {}
-            AtlasCommand::PopClipPath => {}
-        }
-    }
-
-    fn put_payload(&mut self, call: Call)
-        requires { Room (length (payload_of call)) self.old }
-        ensures wrote { Wrote (payload_of call) self.old self.new }
-        ensures fits { FitsCall call }
-    {
-        match call {
-            Call::Command(command) => self.put_command(command),
-            Call::SaveState => {}
-            Call::RestoreState => {}
-            Call::StrokePath(path) => self.put_path(path),
-            Call::SetPaintImage(picture) => self.put_picture(picture),
-            Call::SetTint(tint) => self.put_tint(tint),
-        }
-    }
-
-    // No record is longer than 52 bytes.
+    // The payload's length stands before the payload, and is known after it.
     pub(crate) fn put_call(&mut self, call: Call)
-        requires { Room 52 self.old }
-        ensures wrote { Wrote (record_of call) self.old self.new }
-        ensures fits { FitsCall call }
+        requires { Room place self.old }
+        ensures { Wrote (record_of call) self.old self.new }
     {
-        self.put_u16(payload_length(call));
-        self.put_u16(kind(call));
-        self.put_payload(call);
+        let start = self.used;
+        [0, kind(call)].encode(self);
+        call.encode(self);
+        let length = (self.used - start - 4) as u16;
+        self.out[start..start + 2].copy_from_slice(&length.to_le_bytes());
     }
 }

@@ -5,6 +5,7 @@ ghost use Rattle.stream_screen.specs.Worked.{Worked};
 
 use crate::screen::StreamScreen;
 use interface::sink::{DrawSink, GlyphRenderer};
+use shapes::Color;
 
 pub fn records_hold() -> bool
     ensures cases { Worked }
@@ -13,15 +14,9 @@ pub fn records_hold() -> bool
     ensures run { result ≡ true }
 {
     let mut out = [0; 156];
-    let mut screen = StreamScreen::new(&mut out, 7, 0, 0, 0, 0);
-    let Ok(state) = screen.save_state() else {
-        return false;
-    };
-    let Ok(()) = screen.pop_layer() else {
-        unreachable()
-    };
-    match screen.restore_state(state) {
-        Ok(()) => screen.bytes() == [0, 0, 12, 0, 0, 0, 10, 0, 0, 0, 13, 0].as_slice(),
-        Err(_) => unreachable(),
-    }
+    let mut screen = StreamScreen::new(&mut out, 7, Color::from_bits(0, 0, 0, 0));
+    let state = screen.save_state().unwrap();
+    screen.pop_layer().unwrap();
+    screen.restore_state(state).unwrap();
+    screen.bytes() == [0, 0, 12, 0, 0, 0, 10, 0, 0, 0, 13, 0].as_slice()
 }

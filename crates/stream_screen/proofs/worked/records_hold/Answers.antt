@@ -8,7 +8,10 @@ use Rattle.std.proofs.lemmas.Bool.Decides.{Decides-eqb}
 
 pub returns : goal.returns
 returns c =
-    let wrote = three_records (ap (λ m. m.calls) c.new-screen.ensures.means) c.in-Ok.ensures.saves.1.calls c.in-Ok-pop_layer.ensures.sends.1.calls c.in-Ok-restore_state.ensures.restores.1.calls in
+    let saved = rw c.unwrap-state.ensures at c.save_state.ensures.saves in
+    let popped = rw c.unwrap.ensures at c.pop_layer.ensures.sends in
+    let restored = rw c.unwrap-2.ensures at c.restore_state.ensures.restores in
+    let wrote = three_records (ap (λ m. m.calls) c.new-screen.ensures.means) saved.1.calls popped.1.calls restored.1.calls in
     record {
       cases = worked;
       reads = reads_back;

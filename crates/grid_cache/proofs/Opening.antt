@@ -3,7 +3,7 @@ use Rattle.std.proofs.Common.{◌≡◌, ℕ, zero, suc, ◌-◌, ◌*◌, ◌/�
 use Rattle.std.proofs.lemmas.List.{get_or-replicate, get_or_past, length-replicate}
 use Rattle.std.proofs.lemmas.Bool.{cases_lt, lt-ltb, le-ltb, and_left, and_right}
 use Rattle.image_cache.specs.Caches.{Empty}
-use Rattle.grid_cache.specs.declared.size.Size.{Size}
+use Rattle.image_cache.specs.declared.image.Size.{Size}
 use Rattle.grid_cache.specs.Sizes.{no_size}
 use Rattle.grid_cache.specs.Cells.{bit, is_free, is_taken, image_at, cache_of, word_of}
 use Rattle.grid_cache.specs.Bits.{full_bit}

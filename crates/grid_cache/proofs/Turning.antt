@@ -5,7 +5,7 @@ use Rattle.std.proofs.lemmas.List.{get_or-set_same, get_or-set_other, set_past}
 use Rattle.std.proofs.lemmas.Bool.{cases_eq, cases_lt, lt-ltb, and_from, and_parts, and_right, not-true}
 use Rattle.image_cache.specs.Caches.{Added, Removed}
 use Rattle.image_cache.specs.declared.image.Image.{Image}
-use Rattle.grid_cache.specs.declared.size.Size.{Size}
+use Rattle.image_cache.specs.declared.image.Size.{Size}
 use Rattle.grid_cache.specs.Sizes.{no_size}
 use Rattle.grid_cache.specs.Cells.{bit, is_free, is_taken, image_at, cache_of, toggled}
 use Rattle.grid_cache.specs.Bits.{toggled_same, toggled_other}

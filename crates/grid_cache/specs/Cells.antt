@@ -16,11 +16,12 @@
 --     Opened c n r         the answer r to a call for such a grid
 --     word_of p n          the word of the page p in a new grid of n pages
 use Rattle.std.specs.Prelude.{◌≡◌, ℕ, ◌-◌, ◌*◌, ◌/◌, ◌%◌, ◌^◌, ◌<◌, ◌≤◌, Bool, true, false, cond, not, ◌&&◌, ◌||◌, List, [], ◌∷◌, length, Some, None, Ok, Err, Option, Result, ◌==◌, bit_xor, nat_le, nat_lt, slice_index, slice_index_or, slice_set}
+use Rattle.std.specs.List.{list_any}
 use Rattle.image_cache.specs.Faults.{cache_number}
 use Rattle.image_cache.specs.Caches.{Cache, Empty}
 use Rattle.image_cache.specs.declared.image.Image.{Image}
 use Rattle.image_cache.specs.declared.fault.CacheFault.{CacheFault}
-use Rattle.grid_cache.specs.declared.size.Size.{Size}
+use Rattle.image_cache.specs.declared.image.Size.{Size}
 use Rattle.grid_cache.specs.declared.grid.Grid.{Grid}
 use Rattle.grid_cache.specs.Sizes.{no_size}
 
@@ -40,8 +41,7 @@ abbrev pub size_fits : ℕ → ℕ → ℕ → Bool
 size_fits cell w h = nat_lt 0 w && (nat_le w cell && (nat_lt 0 h && nat_le h cell))
 
 abbrev pub any_free : List ℕ → Bool
-any_free [] = false
-any_free (word ∷ words) = not (word == 0) || any_free words
+any_free = list_any (λ word. not (word == 0))
 
 abbrev pub fits_in : ℕ → List ℕ → ℕ → ℕ → Bool
 fits_in cell words w h = size_fits cell w h && any_free words

@@ -4,7 +4,7 @@ use Rattle.std.proofs.Common.{sym, ap, subst, ◌∙◌, ⊎_elim, arith, mul-le
 use Rattle.std.proofs.lemmas.Bool.{cases_eq, cases_order, ltb-true, lt-ltb, le-leb, and_parts, and_from, and_left, and_right, not-false}
 use Rattle.image_cache.specs.Caches.{Pixel, In, Inside, Empty, Lawful}
 use Rattle.image_cache.specs.declared.image.Image.{Image}
-use Rattle.grid_cache.specs.declared.size.Size.{Size}
+use Rattle.image_cache.specs.declared.image.Size.{Size}
 use Rattle.grid_cache.specs.Sizes.{no_size}
 use Rattle.grid_cache.specs.Cells.{bit, is_free, is_taken, image_at, size_fits, any_free, cache_of}
 use Rattle.grid_cache.specs.Rooms.{some_free}

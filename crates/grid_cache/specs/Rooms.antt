@@ -1,9 +1,9 @@
 -- Whether some cell is free, told by the words of the pages, and which is chosen.
-use Rattle.std.specs.Prelude.{◌≡◌, ℕ, zero, suc, ◌+◌, ◌*◌, ◌/◌, ◌%◌, ◌^◌, ◌<◌, ◌≤◌, true, false, not, ◌&&◌, List, [], ◌∷◌, length, ◌==◌, nat_le, nat_lt, slice_index, slice_index_or, refl}
-use Rattle.std.proofs.Common.{ap, ◌∙◌, arith}
+use Rattle.std.specs.Prelude.{◌≡◌, ℕ, zero, suc, ◌+◌, ◌*◌, ◌/◌, ◌%◌, ◌^◌, ◌<◌, ◌≤◌, true, false, not, ◌&&◌, List, [], ◌∷◌, length, Option, Some, None, is_some, ◌==◌, nat_le, nat_lt, slice_index, slice_index_or, refl}
+use Rattle.std.proofs.Common.{sym, ap, ◌∙◌, arith}
 use Rattle.std.proofs.lemmas.Bool.{eq-eqb, ne_eqb, or_from, or_left, or_right, and_parts, leb-true}
 use Rattle.grid_cache.specs.declared.grid.Grid.{Grid}
-use Rattle.grid_cache.specs.Cells.{bit, any_free, size_fits, fits_in, Chosen}
+use Rattle.grid_cache.specs.Cells.{bit, any_free, size_fits, fits_in, Chosen, FirstRoom}
 use Rattle.grid_cache.specs.Bits.{highest, highest_set, highest_below, highest_above, zero_bit}
 
 pub none_free : (words : List ℕ) → ((k : ℕ) → k < length words → slice_index words k ≡ 0) → any_free words ≡ false
@@ -15,6 +15,10 @@ pub some_free : (words : List ℕ) (p : ℕ) → 0 < slice_index words p → any
 some_free [] p h = absurd (omega arith)
 some_free (x ∷ xs) zero h = or_left (not (x == 0)) (any_free xs) (ap not (ne_eqb x 0 (λ e. omega arith)))
 some_free (x ∷ xs) (suc p) h = or_right (not (x == 0)) (any_free xs) (some_free xs p h)
+
+pub found_any : (words : List ℕ) (r : Option ℕ) → FirstRoom words r → is_some r ≡ any_free words
+found_any words None h = sym (none_free words h)
+found_any words (Some p) h = sym (some_free words p h.1)
 
 -- a size that fits is no larger than a cell
 fits_parts : (cell w h : ℕ) (words : List ℕ) → fits_in cell words w h ≡ true → (nat_le w cell ≡ true) × (nat_le h cell ≡ true)

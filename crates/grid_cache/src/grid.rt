@@ -2,13 +2,7 @@
 ghost use Rattle.std.specs.Prelude.{◌≡◌, ℕ, ◌≤◌, slice_index, slice_index_or};
 ghost use Rattle.grid_cache.specs.Sizes.{no_size};
 
-use crate::size::Size;
-
-// Cells in a row, and in a column.
-pub(crate) const ROW_CELLS: u32 = 8;
-
-// Cells on a page.
-pub(crate) const PAGE_CELLS: u32 = 64;
+use image_cache::image::Size;
 
 #[derive(Drop)]
 pub struct Grid {

@@ -11,7 +11,6 @@
 --     Chosen g i           the cell i is the free one of highest number on the first page that has one
 --     FirstRoom ws r       r is the first page with a free cell, or none where none has one
 --     toggled ws i         the cell i is taken where it was free, free where it was taken; all others are as they were
---     InLimits c n         cells of side c and n pages are within the limits
 --     Fresh c n g          g is a new grid of them, every cell free
 --     Opened c n r         the answer r to a call for such a grid
 --     word_of p n          the word of the page p in a new grid of n pages
@@ -23,7 +22,7 @@ use Rattle.image_cache.specs.declared.image.Image.{Image}
 use Rattle.image_cache.specs.declared.fault.CacheFault.{CacheFault}
 use Rattle.image_cache.specs.declared.image.Size.{Size}
 use Rattle.grid_cache.specs.declared.grid.Grid.{Grid}
-use Rattle.grid_cache.specs.Sizes.{no_size}
+use Rattle.grid_cache.specs.Sizes.{no_size, InLimits}
 
 abbrev pub bit : ℕ → ℕ → Bool
 bit k word = word / 2 ^ k % 2 == 1
@@ -72,12 +71,6 @@ FirstRoom words (Some p) = (p < length words) × (0 < slice_index words p) × ((
 
 abbrev pub toggled : List ℕ → ℕ → List ℕ
 toggled words i = slice_set words (i / 64) (bit_xor (slice_index words (i / 64)) (2 ^ (i % 64)))
-
-pub record InLimits (cell count : ℕ) : Type 0 where
-  pub large : 2 ≤ cell
-  pub small : cell ≤ 8191
-  pub some : 1 ≤ count
-  pub few : count ≤ 4
 
 pub record Fresh (cell count : ℕ) (g : Grid) : Type 0 where
   pub side : g.cell ≡ cell

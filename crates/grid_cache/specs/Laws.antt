@@ -5,7 +5,7 @@ use Rattle.std.proofs.lemmas.Bool.{cases_eq, cases_order, ltb-true, lt-ltb, le-l
 use Rattle.image_cache.specs.Caches.{Pixel, In, Inside, Empty, Lawful}
 use Rattle.image_cache.specs.declared.image.Image.{Image}
 use Rattle.image_cache.specs.declared.image.Size.{Size}
-use Rattle.grid_cache.specs.Sizes.{no_size}
+use Rattle.grid_cache.specs.Sizes.{no_size, GoesInto, InLimits}
 use Rattle.grid_cache.specs.Cells.{bit, is_free, is_taken, image_at, size_fits, any_free, cache_of}
 use Rattle.grid_cache.specs.Rooms.{some_free}
 
@@ -45,13 +45,12 @@ live_is cell count words sizes i a h = there_by (is_taken count words i) (image_
 taken_below : (count : ℕ) (words : List ℕ) (i : ℕ) → is_taken count words i ≡ true → i < 64 * count
 taken_below count words i t = ltb-true i (64 * count) (and_parts (nat_lt i (64 * count)) (not (is_free words i)) t).0
 
-module _ (cell count : ℕ) (words : List ℕ) (sizes : List Size)
-    (narrow : (k : ℕ) → (slice_index_or sizes k no_size).w ≤ cell) (low : (k : ℕ) → (slice_index_or sizes k no_size).h ≤ cell) where
+module _ (cell count : ℕ) (words : List ℕ) (sizes : List Size) (within : (k : ℕ) → GoesInto cell (slice_index_or sizes k no_size)) where
   image_inside : (i : ℕ) → i < 64 * count → Inside (cache_of cell count words sizes) (image_at cell sizes i)
   image_inside i l = record {
     page = omega arith;
-    right = ahead (i % 8) 8 cell _ (omega arith) (narrow i);
-    bottom = ahead (i % 64 / 8) 8 cell _ (omega arith) (low i);
+    right = ahead (i % 8) 8 cell _ (omega arith) (within i).wide;
+    bottom = ahead (i % 64 / 8) 8 cell _ (omega arith) (within i).high;
   }
 
   images_apart : (i j : ℕ) → (i ≢ j) → (p : Pixel) → In p (image_at cell sizes i) → In p (image_at cell sizes j) → ⊥
@@ -59,8 +58,8 @@ module _ (cell count : ℕ) (words : List ℕ) (sizes : List Size)
       ne
       (same_cell i j
       (sym a.on_page ∙ b.on_page)
-      (one_band (i % 8) (j % 8) cell _ _ p.x (narrow i) (narrow j) a.left a.right b.left b.right)
-      (one_band (i % 64 / 8) (j % 64 / 8) cell _ _ p.y (low i) (low j) a.top a.bottom b.top b.bottom))
+      (one_band (i % 8) (j % 8) cell _ _ p.x (within i).wide (within j).wide a.left a.right b.left b.right)
+      (one_band (i % 64 / 8) (j % 64 / 8) cell _ _ p.y (within i).high (within j).high a.top a.bottom b.top b.bottom))
 
 -- the cell 0 is free where no image is live
 cell_0_free : (cell count : ℕ) (words : List ℕ) (sizes : List Size) → 1 ≤ count → Empty (cache_of cell count words sizes) → is_free words 0 ≡ true
@@ -80,20 +79,20 @@ first_word words h =
 size_from : (cell w h : ℕ) → 0 < w → w ≤ cell → 0 < h → h ≤ cell → size_fits cell w h ≡ true
 size_from cell w h w₀ w₁ h₀ h₁ = and_from _ _ (lt-ltb 0 w w₀) (and_from _ _ (le-leb w cell w₁) (and_from _ _ (lt-ltb 0 h h₀) (le-leb h cell h₁)))
 
-pub lawful : (cell count : ℕ) (words : List ℕ) (sizes : List Size) → 2 ≤ cell → cell ≤ 8191 → 1 ≤ count → count ≤ 4
-    → ((k : ℕ) → (slice_index_or sizes k no_size).w ≤ cell) → ((k : ℕ) → (slice_index_or sizes k no_size).h ≤ cell) → Lawful (cache_of cell count words sizes)
-lawful cell count words sizes large small some few narrow low = record {
-  limits = record { width = (omega arith, omega arith); height = (omega arith, omega arith); count = (some, few); largest = (large, large) };
+pub lawful : (cell count : ℕ) (words : List ℕ) (sizes : List Size) → InLimits cell count → ((k : ℕ) → GoesInto cell (slice_index_or sizes k no_size))
+    → Lawful (cache_of cell count words sizes)
+lawful cell count words sizes limits within = record {
+  limits = record { width = (omega arith, omega arith); height = (omega arith, omega arith); count = (limits.some, limits.few); largest = (limits.large, limits.large) };
   named = λ i a h. ap (λ (x : Image). x.id) (live_is cell count words sizes i a h).1;
   ids = λ i a h. let l = taken_below count words i (live_is cell count words sizes i a h).0 in let p : 256 < 2 ^ 32 = lit< tt in omega arith;
   inside = λ i a h.
       let p = live_is cell count words sizes i a h in
       let P : Image → Type 0 = Inside (cache_of cell count words sizes) in
-      subst P (sym p.1) (image_inside cell count words sizes narrow low i (taken_below count words i p.0));
+      subst P (sym p.1) (image_inside cell count words sizes within i (taken_below count words i p.0));
   apart = λ i j a b h k ne q m n.
       let P : Image → Type 0 = In q in
-      images_apart cell count words sizes narrow low i j ne q (subst P (live_is cell count words sizes i a h).1 m) (subst P (live_is cell count words sizes j b k).1 n);
+      images_apart cell count words sizes within i j ne q (subst P (live_is cell count words sizes i a h).1 m) (subst P (live_is cell count words sizes j b k).1 n);
   none_wide = λ h. refl;
   none_high = λ w. and_left (size_fits cell w 0) (any_free words) (and_right (nat_lt 0 w) (nat_le w cell && false) (and_right (nat_le w cell) false refl));
-  empty_fits = λ none w h w₀ w₁ h₀ h₁. and_from (size_fits cell w h) (any_free words) (size_from cell w h w₀ w₁ h₀ h₁) (some_free words 0 (first_word words (cell_0_free cell count words sizes some none)));
+  empty_fits = λ none w h w₀ w₁ h₀ h₁. and_from (size_fits cell w h) (any_free words) (size_from cell w h w₀ w₁ h₀ h₁) (some_free words 0 (first_word words (cell_0_free cell count words sizes limits.some none)));
 }

@@ -14,7 +14,7 @@ use image_cache::image::{Image, Size};
 impl ImageCache for Grid {
     ghost meaning = { cache_of_grid };
 
-    ghost lawful = { λ c. Laws.lawful c.cell c.count c.free c.sizes c.large c.small c.some c.few c.narrow c.low };
+    ghost lawful = { λ c. Laws.lawful c.cell c.count c.free c.sizes c.limits c.within };
 
     fn page_width(&self) -> u16 {
         self.span(ROW_CELLS)

@@ -1,6 +1,7 @@
 // New grids.
 ghost use Rattle.std.specs.Prelude.{◌≡◌};
-ghost use Rattle.grid_cache.specs.Cells.{InLimits, Fresh, Opened};
+ghost use Rattle.grid_cache.specs.Sizes.{InLimits};
+ghost use Rattle.grid_cache.specs.Cells.{Fresh, Opened};
 
 use crate::grid::Grid;
 use crate::words::new_words;

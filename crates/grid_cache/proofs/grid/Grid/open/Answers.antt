@@ -4,11 +4,8 @@ use Rattle.grid_cache.specs.Sizes.{no_size}
 use Rattle.grid_cache.proofs.Opening.{new_free, new_none, no_sizes}
 use Rattle.grid_cache.proofs.grid.Grid.open.Goals as goal
 
-pub invariant_of-result-clause-narrow : goal.invariant_of-result-clause-narrow
-invariant_of-result-clause-narrow c = λ k. rw (no_sizes 256 k) (omega arith)
-
-pub invariant_of-result-clause-low : goal.invariant_of-result-clause-low
-invariant_of-result-clause-low c = λ k. rw (no_sizes 256 k) (omega arith)
+pub invariant_of-result-clause-within : goal.invariant_of-result-clause-within
+invariant_of-result-clause-within c = λ k. rw (no_sizes 256 k) (record { wide = omega arith; high = omega arith })
 
 pub returns : goal.returns
 returns c = record {

@@ -1,6 +1,6 @@
 -- The highest free cell of the first page with room is the one that is meant.
 use Rattle.std.proofs.Common.{◌<◌, ◌^◌, get_or, arith}
-use Rattle.grid_cache.specs.Rooms.{chosen_is}
+use Rattle.grid_cache.proofs.Rooms.{chosen_is}
 use Rattle.grid_cache.proofs.grid.Grid.place.Goals as goal
 
 pub returns-clause-chosen : goal.returns-clause-chosen

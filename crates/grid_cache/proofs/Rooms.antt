@@ -1,5 +1,5 @@
 -- Whether some cell is free, told by the words of the pages, and which is chosen.
-use Rattle.std.proofs.Common.{◌≡◌, ℕ, zero, suc, ◌+◌, ◌*◌, ◌/◌, ◌%◌, ◌^◌, ◌<◌, false, List, [], ◌∷◌, length, Option, Some, None, is_some, slice_index, refl, sym, arith}
+use Rattle.std.proofs.Common.{◌≡◌, ℕ, suc, ◌+◌, ◌*◌, ◌/◌, ◌%◌, ◌^◌, ◌<◌, false, List, [], ◌∷◌, length, Option, Some, None, is_some, slice_index, refl, sym, arith}
 use Rattle.std.proofs.lemmas.Bool.Decides.{nat_tests}
 use Rattle.grid_cache.specs.declared.grid.Grid.{Grid}
 use Rattle.grid_cache.specs.Cells.{any_free, Chosen, FirstRoom}

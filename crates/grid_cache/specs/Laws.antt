@@ -9,7 +9,7 @@ use Rattle.image_cache.specs.Caches.{Pixel, In, Inside, Empty, Lawful}
 use Rattle.image_cache.specs.declared.image.Image.{Image}
 use Rattle.image_cache.specs.declared.image.Size.{Size}
 use Rattle.grid_cache.specs.Sizes.{no_size, GoesInto, InLimits}
-use Rattle.grid_cache.specs.Cells.{is_free, is_taken, image_at, size_fits, any_free, fits_in, cache_of}
+use Rattle.grid_cache.specs.Cells.{is_taken, image_at, size_fits, any_free, cache_of}
 
 -- one cell before another, along a side
 ahead : (a b c w : ℕ) → a < b → w ≤ c → a * c + w ≤ b * c

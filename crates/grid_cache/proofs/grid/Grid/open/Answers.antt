@@ -1,5 +1,5 @@
 -- The words and sizes of a new grid are as they must be.
-use Rattle.std.proofs.Common.{◌≤◌, replicate, refl, arith}
+use Rattle.std.proofs.Common.{replicate, refl, arith}
 use Rattle.grid_cache.specs.Sizes.{no_size}
 use Rattle.grid_cache.proofs.Opening.{new_free, new_none, no_sizes}
 use Rattle.grid_cache.proofs.grid.Grid.open.Goals as goal

@@ -1,2 +1,4 @@
+mod Bits
+mod Rooms
 mod Turning
 mod Opening

@@ -11,18 +11,18 @@
 --     Chosen g i           the cell i is the free one of highest number on the first page that has one
 --     FirstRoom ws r       r is the first page with a free cell, or none where none has one
 --     toggled ws i         the cell i is taken where it was free, free where it was taken; all others are as they were
---     InLimits c n         cells of side c and n pages are within the limits
 --     Fresh c n g          g is a new grid of them, every cell free
 --     Opened c n r         the answer r to a call for such a grid
 --     word_of p n          the word of the page p in a new grid of n pages
-use Rattle.std.specs.Prelude.{◌≡◌, ℕ, ◌-◌, ◌*◌, ◌/◌, ◌%◌, ◌^◌, ◌<◌, ◌≤◌, Bool, true, false, cond, not, ◌&&◌, ◌||◌, List, [], ◌∷◌, length, Some, None, Ok, Err, Option, Result, ◌==◌, bit_xor, nat_le, nat_lt, slice_index, slice_index_or, slice_set}
+use Rattle.std.specs.Prelude.{◌≡◌, ℕ, ◌-◌, ◌*◌, ◌/◌, ◌%◌, ◌^◌, ◌<◌, Bool, true, false, cond, not, ◌&&◌, List, length, Some, None, Ok, Err, Option, Result, ◌==◌, bit_xor, nat_le, nat_lt, slice_index, slice_index_or, slice_set}
+use Rattle.std.specs.List.{list_any}
 use Rattle.image_cache.specs.Faults.{cache_number}
 use Rattle.image_cache.specs.Caches.{Cache, Empty}
 use Rattle.image_cache.specs.declared.image.Image.{Image}
 use Rattle.image_cache.specs.declared.fault.CacheFault.{CacheFault}
-use Rattle.grid_cache.specs.declared.size.Size.{Size}
+use Rattle.image_cache.specs.declared.image.Size.{Size}
 use Rattle.grid_cache.specs.declared.grid.Grid.{Grid}
-use Rattle.grid_cache.specs.Sizes.{no_size}
+use Rattle.grid_cache.specs.Sizes.{no_size, InLimits}
 
 abbrev pub bit : ℕ → ℕ → Bool
 bit k word = word / 2 ^ k % 2 == 1
@@ -40,8 +40,7 @@ abbrev pub size_fits : ℕ → ℕ → ℕ → Bool
 size_fits cell w h = nat_lt 0 w && (nat_le w cell && (nat_lt 0 h && nat_le h cell))
 
 abbrev pub any_free : List ℕ → Bool
-any_free [] = false
-any_free (word ∷ words) = not (word == 0) || any_free words
+any_free = list_any (λ word. not (word == 0))
 
 abbrev pub fits_in : ℕ → List ℕ → ℕ → ℕ → Bool
 fits_in cell words w h = size_fits cell w h && any_free words
@@ -72,12 +71,6 @@ FirstRoom words (Some p) = (p < length words) × (0 < slice_index words p) × ((
 
 abbrev pub toggled : List ℕ → ℕ → List ℕ
 toggled words i = slice_set words (i / 64) (bit_xor (slice_index words (i / 64)) (2 ^ (i % 64)))
-
-pub record InLimits (cell count : ℕ) : Type 0 where
-  pub large : 2 ≤ cell
-  pub small : cell ≤ 8191
-  pub some : 1 ≤ count
-  pub few : count ≤ 4
 
 pub record Fresh (cell count : ℕ) (g : Grid) : Type 0 where
   pub side : g.cell ≡ cell

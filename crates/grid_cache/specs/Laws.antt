@@ -1,29 +1,23 @@
 -- A grid is a lawful image cache.
-use Rattle.std.specs.Prelude.{◌≡◌, ℕ, ◌+◌, ◌*◌, ◌/◌, ◌%◌, ◌^◌, ◌<◌, ◌≤◌, Bool, true, false, cond, not, ◌&&◌, List, Some, None, ◌≢◌, nat_le, nat_lt, slice_index, slice_index_or, refl}
-use Rattle.std.proofs.Common.{sym, ap, subst, ◌∙◌, ⊎_elim, arith, mul-le-mul_right, add-mul, one-mul, lit<}
-use Rattle.std.proofs.lemmas.Bool.{cases_eq, cases_order, ltb-true, lt-ltb, le-leb, and_parts, and_from, and_left, and_right, not-false}
+use Rattle.std.specs.Prelude.{◌≡◌, ℕ, zero, suc, ◌+◌, ◌-◌, ◌*◌, ◌/◌, ◌%◌, ◌^◌, ◌<◌, ◌≤◌, Bool, true, false, cond, List, [], ◌∷◌, Some, None, ◌≢◌, slice_index, slice_index_or}
+use Rattle.std.proofs.Common.{refl, ap, sym, subst, ◌∙◌, arith, lit<}
+use Rattle.std.proofs.lemmas.Bool.{and_from}
+use Rattle.std.proofs.lemmas.Bool.Decides.{nat_tests}
+use Rattle.std.proofs.lemmas.Nat.{same_from_place}
+use Rattle.std.proofs.lemmas.Option.{cond_some}
 use Rattle.image_cache.specs.Caches.{Pixel, In, Inside, Empty, Lawful}
 use Rattle.image_cache.specs.declared.image.Image.{Image}
-use Rattle.grid_cache.specs.declared.size.Size.{Size}
-use Rattle.grid_cache.specs.Sizes.{no_size}
-use Rattle.grid_cache.specs.Cells.{bit, is_free, is_taken, image_at, size_fits, any_free, cache_of}
-use Rattle.grid_cache.specs.Rooms.{some_free}
+use Rattle.image_cache.specs.declared.image.Size.{Size}
+use Rattle.grid_cache.specs.Sizes.{no_size, GoesInto, InLimits}
+use Rattle.grid_cache.specs.Cells.{is_taken, image_at, size_fits, any_free, cache_of}
 
 -- one cell before another, along a side
 ahead : (a b c w : ℕ) → a < b → w ≤ c → a * c + w ≤ b * c
-ahead a b c w l h =
-    let m : (a + 1) * c ≤ b * c = mul-le-mul_right c (omega arith) in
-    omega (arith, add-mul a 1 c, one-mul c)
+ahead a b c w l h = grind arith
 
 -- a coordinate that lies in two cells of a side lies in one
 one_band : (a b c w v x : ℕ) → w ≤ c → v ≤ c → a * c ≤ x → x < a * c + w → b * c ≤ x → x < b * c + v → a ≡ b
-one_band a b c w v x wc vc al ar bl br =
-    ⊎_elim
-    (λ e. e)
-    (⊎_elim
-    (λ l. let k = ahead a b c w l wc in absurd (omega arith))
-    (λ l. let k = ahead b a c v l vc in absurd (omega arith)))
-    (cases_order a b)
+one_band a b c w v x wc vc al ar bl br = (same_from_place a (x - a * c) b (x - b * c) c (omega arith) (omega arith) (omega arith)).0
 
 -- two cells of one page in one row and one column are one cell
 same_cell : (i j : ℕ) → i / 64 ≡ j / 64 → i % 8 ≡ j % 8 → i % 64 / 8 ≡ j % 64 / 8 → i ≡ j
@@ -31,27 +25,22 @@ same_cell i j p q r = omega arith
 
 -- what is said by an image that is there or not, by a test
 pub there_by : (b : Bool) (x a : Image) → cond b (Some x) None ≡ Some a → (b ≡ true) × (a ≡ x)
-there_by true x a h = (refl, cc)
-there_by false x a h = let z : ◌≡◌ {A = ℕ} 0 1 = cc in absurd (omega arith)
-
-absent_by : (b : Bool) (x : Image) → cond b (Some x) None ≡ None → b ≡ false
-absent_by true x h = let z : ◌≡◌ {A = ℕ} 0 1 = cc in absurd (omega arith)
-absent_by false x h = refl
+there_by b x a h = let p = cond_some b x a h in (p.0, sym p.1)
 
 -- what a live image is
-live_is : (cell count : ℕ) (words : List ℕ) (sizes : List Size) (i : ℕ) (a : Image) → (cache_of cell count words sizes).live i ≡ Some a → (is_taken count words i ≡ true) × (a ≡ image_at cell sizes i)
-live_is cell count words sizes i a h = there_by (is_taken count words i) (image_at cell sizes i) a h
+live_is : (cell count : ℕ) (words : List ℕ) (sizes : List Size) (i : ℕ) (a : Image) → (cache_of cell count words sizes).live i ≡ Some a
+    → (i < 64 * count) × (a ≡ image_at cell sizes i)
+live_is cell count words sizes i a h =
+    let p = there_by (is_taken count words i) (image_at cell sizes i) a h in
+    let t : is_taken count words i ≡ true = p.0 in
+    (grind (arith, nat_tests), p.1)
 
-taken_below : (count : ℕ) (words : List ℕ) (i : ℕ) → is_taken count words i ≡ true → i < 64 * count
-taken_below count words i t = ltb-true i (64 * count) (and_parts (nat_lt i (64 * count)) (not (is_free words i)) t).0
-
-module _ (cell count : ℕ) (words : List ℕ) (sizes : List Size)
-    (narrow : (k : ℕ) → (slice_index_or sizes k no_size).w ≤ cell) (low : (k : ℕ) → (slice_index_or sizes k no_size).h ≤ cell) where
+module _ (cell count : ℕ) (words : List ℕ) (sizes : List Size) (within : (k : ℕ) → GoesInto cell (slice_index_or sizes k no_size)) where
   image_inside : (i : ℕ) → i < 64 * count → Inside (cache_of cell count words sizes) (image_at cell sizes i)
   image_inside i l = record {
     page = omega arith;
-    right = ahead (i % 8) 8 cell _ (omega arith) (narrow i);
-    bottom = ahead (i % 64 / 8) 8 cell _ (omega arith) (low i);
+    right = ahead (i % 8) 8 cell _ (omega arith) (within i).wide;
+    bottom = ahead (i % 64 / 8) 8 cell _ (omega arith) (within i).high;
   }
 
   images_apart : (i j : ℕ) → (i ≢ j) → (p : Pixel) → In p (image_at cell sizes i) → In p (image_at cell sizes j) → ⊥
@@ -59,41 +48,41 @@ module _ (cell count : ℕ) (words : List ℕ) (sizes : List Size)
       ne
       (same_cell i j
       (sym a.on_page ∙ b.on_page)
-      (one_band (i % 8) (j % 8) cell _ _ p.x (narrow i) (narrow j) a.left a.right b.left b.right)
-      (one_band (i % 64 / 8) (j % 64 / 8) cell _ _ p.y (low i) (low j) a.top a.bottom b.top b.bottom))
+      (one_band (i % 8) (j % 8) cell _ _ p.x (within i).wide (within j).wide a.left a.right b.left b.right)
+      (one_band (i % 64 / 8) (j % 64 / 8) cell _ _ p.y (within i).high (within j).high a.top a.bottom b.top b.bottom))
 
--- the cell 0 is free where no image is live
-cell_0_free : (cell count : ℕ) (words : List ℕ) (sizes : List Size) → 1 ≤ count → Empty (cache_of cell count words sizes) → is_free words 0 ≡ true
-cell_0_free cell count words sizes some none =
-    let t = absent_by (is_taken count words 0) (image_at cell sizes 0) (none 0) in
-    let b = lt-ltb 0 (64 * count) (omega arith) in
-    not-false (is_free words 0) (sym (ap (λ x. x && not (is_free words 0)) b) ∙ t)
+-- some word is not 0
+pub some_free : (words : List ℕ) (p : ℕ) → 0 < slice_index words p → any_free words ≡ true
+some_free [] p h = absurd (omega arith)
+some_free (x ∷ xs) zero h = grind (arith, nat_tests)
+some_free (x ∷ xs) (suc p) h = let t = some_free xs p h in grind (arith, nat_tests)
 
--- and then the first word is not 0
-first_word : (words : List ℕ) → is_free words 0 ≡ true → 0 < slice_index words 0
-first_word words h =
-    ⊎_elim
-    (λ z. let f : is_free words 0 ≡ false = ap (bit 0) z in let e : ◌≡◌ {A = ℕ} 0 1 = cc in absurd (omega arith))
-    (λ ne. omega (arith, ne))
-    (cases_eq (slice_index words 0) 0)
+-- where no image is live the cell 0 is free
+first_word : (count : ℕ) (words : List ℕ) → 1 ≤ count → is_taken count words 0 ≡ false → 0 < slice_index words 0
+first_word count words some none = grind (arith, nat_tests)
+
+room : (cell count : ℕ) (words : List ℕ) (sizes : List Size) → 1 ≤ count → Empty (cache_of cell count words sizes) → any_free words ≡ true
+room cell count words sizes some none =
+    let e : cond (is_taken count words 0) (Some (image_at cell sizes 0)) None ≡ None = none 0 in
+    some_free words 0 (first_word count words some (grind arith))
 
 size_from : (cell w h : ℕ) → 0 < w → w ≤ cell → 0 < h → h ≤ cell → size_fits cell w h ≡ true
-size_from cell w h w₀ w₁ h₀ h₁ = and_from _ _ (lt-ltb 0 w w₀) (and_from _ _ (le-leb w cell w₁) (and_from _ _ (lt-ltb 0 h h₀) (le-leb h cell h₁)))
+size_from cell w h w₀ w₁ h₀ h₁ = grind (arith, nat_tests)
 
-pub lawful : (cell count : ℕ) (words : List ℕ) (sizes : List Size) → 2 ≤ cell → cell ≤ 8191 → 1 ≤ count → count ≤ 4
-    → ((k : ℕ) → (slice_index_or sizes k no_size).w ≤ cell) → ((k : ℕ) → (slice_index_or sizes k no_size).h ≤ cell) → Lawful (cache_of cell count words sizes)
-lawful cell count words sizes large small some few narrow low = record {
-  limits = record { width = (omega arith, omega arith); height = (omega arith, omega arith); count = (some, few); largest = (large, large) };
+pub lawful : (cell count : ℕ) (words : List ℕ) (sizes : List Size) → InLimits cell count → ((k : ℕ) → GoesInto cell (slice_index_or sizes k no_size))
+    → Lawful (cache_of cell count words sizes)
+lawful cell count words sizes limits within = record {
+  limits = record { width = (omega arith, omega arith); height = (omega arith, omega arith); count = (limits.some, limits.few); largest = (limits.large, limits.large) };
   named = λ i a h. ap (λ (x : Image). x.id) (live_is cell count words sizes i a h).1;
-  ids = λ i a h. let l = taken_below count words i (live_is cell count words sizes i a h).0 in let p : 256 < 2 ^ 32 = lit< tt in omega arith;
+  ids = λ i a h. let l = (live_is cell count words sizes i a h).0 in let p : 256 < 2 ^ 32 = lit< tt in omega arith;
   inside = λ i a h.
       let p = live_is cell count words sizes i a h in
       let P : Image → Type 0 = Inside (cache_of cell count words sizes) in
-      subst P (sym p.1) (image_inside cell count words sizes narrow low i (taken_below count words i p.0));
+      subst P (sym p.1) (image_inside cell count words sizes within i p.0);
   apart = λ i j a b h k ne q m n.
       let P : Image → Type 0 = In q in
-      images_apart cell count words sizes narrow low i j ne q (subst P (live_is cell count words sizes i a h).1 m) (subst P (live_is cell count words sizes j b k).1 n);
+      images_apart cell count words sizes within i j ne q (subst P (live_is cell count words sizes i a h).1 m) (subst P (live_is cell count words sizes j b k).1 n);
   none_wide = λ h. refl;
-  none_high = λ w. and_left (size_fits cell w 0) (any_free words) (and_right (nat_lt 0 w) (nat_le w cell && false) (and_right (nat_le w cell) false refl));
-  empty_fits = λ none w h w₀ w₁ h₀ h₁. and_from (size_fits cell w h) (any_free words) (size_from cell w h w₀ w₁ h₀ h₁) (some_free words 0 (first_word words (cell_0_free cell count words sizes some none)));
+  none_high = λ w. grind (arith, nat_tests);
+  empty_fits = λ none w h w₀ w₁ h₀ h₁. and_from (size_fits cell w h) (any_free words) (size_from cell w h w₀ w₁ h₀ h₁) (room cell count words sizes limits.some none);
 }

@@ -1,14 +1,8 @@
 // Pages of 8 by 8 cells of one side. Cells are numbered row by row, 64 to a page, and an image has the number of its cell as its id.
 ghost use Rattle.std.specs.Prelude.{◌≡◌, ℕ, ◌≤◌, slice_index, slice_index_or};
-ghost use Rattle.grid_cache.specs.Sizes.{no_size};
+ghost use Rattle.grid_cache.specs.Sizes.{no_size, GoesInto, InLimits};
 
-use crate::size::Size;
-
-// Cells in a row, and in a column.
-pub(crate) const ROW_CELLS: u32 = 8;
-
-// Cells on a page.
-pub(crate) const PAGE_CELLS: u32 = 64;
+use image_cache::image::Size;
 
 #[derive(Drop)]
 pub struct Grid {
@@ -20,11 +14,7 @@ pub struct Grid {
     pub(crate) free: [u64; 4],
     // the size of the image in each cell; of a cell that is free it says nothing
     pub(crate) sizes: [Size; 256],
-    ghost large: { 2 ≤ cell },
-    ghost small: { cell ≤ 8191 },
-    ghost some: { 1 ≤ count },
-    ghost few: { count ≤ 4 },
+    ghost limits: { InLimits cell count },
     ghost idle: { (p : ℕ) → count ≤ p → slice_index free p ≡ 0 },
-    ghost narrow: { (k : ℕ) → (slice_index_or sizes k no_size).w ≤ cell },
-    ghost low: { (k : ℕ) → (slice_index_or sizes k no_size).h ≤ cell },
+    ghost within: { (k : ℕ) → GoesInto cell (slice_index_or sizes k no_size) },
 }

@@ -5,15 +5,16 @@ ghost use Rattle.image_cache.specs.Caches.{Allocated};
 ghost use Rattle.grid_cache.specs.Cells.{cache_of_grid, Chosen};
 ghost use Rattle.grid_cache.specs.Laws;
 
-use crate::grid::{Grid, PAGE_CELLS, ROW_CELLS};
+use crate::cells::ROW_CELLS;
+use crate::grid::Grid;
 use image_cache::cache::ImageCache;
 use image_cache::fault::CacheFault;
-use image_cache::image::Image;
+use image_cache::image::{Image, Size};
 
 impl ImageCache for Grid {
     ghost meaning = { cache_of_grid };
 
-    ghost lawful = { λ c. Laws.lawful c.cell c.count c.free c.sizes c.large c.small c.some c.few c.narrow c.low };
+    ghost lawful = { λ c. Laws.lawful c.cell c.count c.free c.sizes c.limits c.within };
 
     fn page_width(&self) -> u16 {
         self.span(ROW_CELLS)
@@ -35,36 +36,23 @@ impl ImageCache for Grid {
         self.largest_width()
     }
 
-    fn fits(&self, w: u16, h: u16) -> bool {
-        self.place(w, h).is_some()
+    fn fits(&self, size: Size) -> bool {
+        self.place(size).is_some()
     }
 
     // Besides what any cache does: it takes the free cell of highest number on the first page that has one.
-    fn allocate(&mut self, w: u16, h: u16) -> Result<u32, CacheFault>
-        ensures allocates { Allocated (cache_of_grid self.old) w h result (cache_of_grid self.new) }
+    fn allocate(&mut self, size: Size) -> Result<u32, CacheFault>
+        ensures allocates { Allocated (cache_of_grid self.old) size.w size.h result (cache_of_grid self.new) }
         ensures keeps { KeepsRefused result self.old self.new }
         ensures chosen { IfOk result (λ i. Chosen self.old i) }
     {
-        let Some(id) = self.place(w, h) else {
-            return Err(CacheFault::NoFit);
-        };
-        self.take(id, w, h);
+        let id = self.place(size).ok_or(CacheFault::NoFit)?;
+        self.take(id, size);
         Ok(id)
     }
 
     fn get(&self, id: u32) -> Option<Image> {
-        if !self.is_taken(id) {
-            return None;
-        }
-        let size = self.sizes[id as usize];
-        Some(Image {
-            id,
-            page: id / PAGE_CELLS,
-            x: self.span(id % ROW_CELLS),
-            y: self.span(id % PAGE_CELLS / ROW_CELLS),
-            w: size.w,
-            h: size.h,
-        })
+        self.is_taken(id).then(|| self.image_at(id))
     }
 
     fn free(&mut self, id: u32) -> Result<(), CacheFault> {

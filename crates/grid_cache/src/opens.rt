@@ -1,11 +1,12 @@
 // New grids.
 ghost use Rattle.std.specs.Prelude.{◌≡◌};
-ghost use Rattle.grid_cache.specs.Cells.{InLimits, Fresh, Opened};
+ghost use Rattle.grid_cache.specs.Sizes.{InLimits};
+ghost use Rattle.grid_cache.specs.Cells.{Fresh, Opened};
 
 use crate::grid::Grid;
-use crate::size::Size;
-use crate::words::new_word;
+use crate::words::new_words;
 use image_cache::fault::CacheFault;
+use image_cache::image::Size;
 
 const SMALLEST_CELL: u16 = 2;
 
@@ -20,16 +21,10 @@ impl Grid {
         requires { InLimits cell count }
         ensures { Fresh cell count result }
     {
-        let free = [
-            new_word(0, count),
-            new_word(1, count),
-            new_word(2, count),
-            new_word(3, count),
-        ];
         Grid {
             cell,
             count,
-            free,
+            free: new_words(count),
             sizes: [Size { w: 0, h: 0 }; 256],
         }
     }
@@ -38,7 +33,7 @@ impl Grid {
     pub fn new(cell: u16, count: u32) -> Result<Grid, CacheFault>
         ensures { Opened cell count result }
     {
-        if cell < SMALLEST_CELL || cell > LARGEST_CELL || count < 1 || count > MOST_PAGES {
+        if !(SMALLEST_CELL..=LARGEST_CELL).contains(&cell) || !(1..=MOST_PAGES).contains(&count) {
             return Err(CacheFault::Sizes);
         }
         Ok(Grid::open(cell, count))

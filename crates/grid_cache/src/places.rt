@@ -1,29 +1,30 @@
 // Where the next image goes, and where each image is.
 ghost use Rattle.std.specs.Prelude.{◌≡◌, ◌*◌, ◌<◌, is_some, IfSome};
-ghost use Rattle.grid_cache.specs.Cells.{size_fits, fits_in, is_taken, Chosen};
+ghost use Rattle.grid_cache.specs.Cells.{size_fits, fits_in, is_taken, image_at, Chosen};
 
-use crate::grid::{Grid, PAGE_CELLS};
-use crate::words::{first_room, highest};
+use crate::cells::{PAGE_CELLS, column_of, page_of, row_of};
+use crate::grid::Grid;
+use crate::words::{first_room, highest, is_free};
+use image_cache::image::{Image, Size};
 
 impl Grid {
     // Whether an image of that size goes into a cell.
-    pub(crate) fn suits(&self, w: u16, h: u16) -> bool
-        ensures { result ≡ size_fits self.now.cell w h }
+    pub(crate) fn suits(&self, size: Size) -> bool
+        ensures { result ≡ size_fits self.now.cell size.w size.h }
     {
-        0 < w && w <= self.cell && 0 < h && h <= self.cell
+        let sides = 1..=self.cell;
+        sides.contains(&size.w) && sides.contains(&size.h)
     }
 
     // The cell for an image of that size, if there is one.
-    pub(crate) fn place(&self, w: u16, h: u16) -> Option<u32>
-        ensures fits { is_some result ≡ fits_in self.now.cell self.now.free w h }
+    pub(crate) fn place(&self, size: Size) -> Option<u32>
+        ensures fits { is_some result ≡ fits_in self.now.cell self.now.free size.w size.h }
         ensures chosen { IfSome result (λ i. Chosen self.now i) }
     {
-        if !self.suits(w, h) {
+        if !self.suits(size) {
             return None;
         }
-        let Some(page) = first_room(&self.free) else {
-            return None;
-        };
+        let page = first_room(&self.free)?;
         Some(PAGE_CELLS * page as u32 + highest(self.free[page]))
     }
 
@@ -31,8 +32,23 @@ impl Grid {
     pub(crate) fn is_taken(&self, id: u32) -> bool
         ensures { result ≡ is_taken self.now.count self.now.free id }
     {
-        id < PAGE_CELLS * self.count
-            && (self.free[(id / PAGE_CELLS) as usize] >> (id % PAGE_CELLS)) & 1 == 0
+        id < PAGE_CELLS * self.count && !is_free(&self.free, id)
+    }
+
+    // The image in that cell, at the cell's left and top edge.
+    pub(crate) fn image_at(&self, id: u32) -> Image
+        requires { id < 256 }
+        ensures { result ≡ image_at self.now.cell self.now.sizes id }
+    {
+        let size = self.sizes[id as usize];
+        Image {
+            id,
+            page: page_of(id) as u32,
+            x: self.span(column_of(id)),
+            y: self.span(row_of(id)),
+            w: size.w,
+            h: size.h,
+        }
     }
 
     // The pixels that so many cells take up in a row or a column.

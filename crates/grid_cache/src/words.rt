@@ -1,15 +1,17 @@
 // The free cells of a page as the bits of a word.
-ghost use Rattle.std.specs.Prelude.{◌≡◌, ◌-◌, ◌^◌, ◌<◌};
+ghost use Rattle.std.specs.Prelude.{◌≡◌, ◌-◌, ◌<◌, map, is_some};
+ghost use Rattle.std.specs.List.{range_with_len};
 ghost use Rattle.std.specs.Int.Count.{count_leading_zeros};
-ghost use Rattle.grid_cache.specs.Cells.{toggled, word_of, FirstRoom};
+ghost use Rattle.grid_cache.specs.Cells.{is_free, any_free, toggled, word_of, FirstRoom};
 
-use crate::grid::PAGE_CELLS;
+use crate::cells::{page_of, place_of};
+use std::array;
 
-// All cells are free on a page that is there, and none on one that is not.
-pub(crate) fn new_word(page: u32, count: u32) -> u64
-    ensures { result ≡ word_of page count }
+// The words of a new grid: all cells are free on a page that is there, and none on one that is not.
+pub(crate) fn new_words(count: u32) -> [u64; 4]
+    ensures { result ≡ map (λ page. word_of page count) (range_with_len 0 4) }
 {
-    if page < count { u64::MAX } else { 0 }
+    array::from_fn(|page| if (page as u32) < count { u64::MAX } else { 0 })
 }
 
 // The highest bit that is set, where one is.
@@ -20,29 +22,26 @@ pub(crate) fn highest(word: u64) -> u32
     63 - word.leading_zeros()
 }
 
-fn bit_of(cell: u32) -> u64
-    requires { cell < 64 }
-    ensures { result ≡ 2 ^ cell }
+// Whether the bit of the cell is set.
+pub(crate) fn is_free(free: &[u64; 4], cell: u32) -> bool
+    requires { cell < 256 }
+    ensures { result ≡ is_free free.now cell }
 {
-    1 << cell
+    (free[page_of(cell)] >> place_of(cell)) & 1 == 1
 }
 
 // Makes a free cell a taken one, or a taken one free.
-pub(crate) fn turn(free: &mut [u64; 4], id: u32)
-    requires { id < 256 }
-    ensures { free.new ≡ toggled free.old id }
+pub(crate) fn turn(free: &mut [u64; 4], cell: u32)
+    requires { cell < 256 }
+    ensures { free.new ≡ toggled free.old cell }
 {
-    free[(id / PAGE_CELLS) as usize] ^= bit_of(id % PAGE_CELLS);
+    free[page_of(cell)] ^= 1 << place_of(cell);
 }
 
 // The first page with a free cell.
 pub(crate) fn first_room(words: &[u64]) -> Option<usize>
-    ensures { FirstRoom words.now result }
+    ensures first { FirstRoom words.now result }
+    ensures some { is_some result ≡ any_free words.now }
 {
-    for (page, word) in words.iter().enumerate() {
-        if *word != 0 {
-            return Some(page);
-        }
-    }
-    None
+    words.iter().position(|word| *word != 0)
 }

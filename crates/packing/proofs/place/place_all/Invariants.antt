@@ -3,8 +3,8 @@ use Rattle.std.proofs.Common.{◌≡◌, ◌≤◌, length, take, vec_items, vec
 use Rattle.packing.specs.Run.{PlacedAll}
 use Rattle.packing.proofs.place.place_all.Given as goal
 
-abbrev pub invariant-loop-extent : goal.invariant-loop-extent
-invariant-loop-extent g l =
-    PlacedAll (g.C.ImageCache.meaning l.initial.cache) (take l.extent-index l.extents) (vec_items l.answers) (g.C.ImageCache.meaning l.cache)
-    × (vec_len l.answers ≡ l.extent-index)
-    × (length l.extents ≤ vec_capacity l.answers)
+abbrev pub invariant-loop-size : goal.invariant-loop-size
+invariant-loop-size g l =
+    PlacedAll (g.C.ImageCache.meaning l.initial.cache) (take l.size-index l.sizes) (vec_items l.answers) (g.C.ImageCache.meaning l.cache)
+    × (vec_len l.answers ≡ l.size-index)
+    × (length l.sizes ≤ vec_capacity l.answers)

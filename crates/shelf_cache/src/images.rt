@@ -10,7 +10,7 @@ use crate::shelves::Shelves;
 use crate::steps::to_image;
 use image_cache::cache::ImageCache;
 use image_cache::fault::CacheFault;
-use image_cache::image::Image;
+use image_cache::image::{Image, Size};
 
 impl ImageCache for Shelves {
     ghost meaning = { cache_of_shelves };
@@ -37,20 +37,20 @@ impl ImageCache for Shelves {
         self.page_height()
     }
 
-    fn fits(&self, w: u16, h: u16) -> bool {
-        self.place(w, h).is_some()
+    fn fits(&self, size: Size) -> bool {
+        self.place(size.w, size.h).is_some()
     }
 
     // Besides what any cache does: it goes to the first shelf that takes it, else to a new one on the first page with room.
-    fn allocate(&mut self, w: u16, h: u16) -> Result<u32, CacheFault>
-        ensures allocates { Allocated (cache_of_shelves self.old) w h result (cache_of_shelves self.new) }
+    fn allocate(&mut self, size: Size) -> Result<u32, CacheFault>
+        ensures allocates { Allocated (cache_of_shelves self.old) size.w size.h result (cache_of_shelves self.new) }
         ensures keeps { KeepsRefused result self.old self.new }
-        ensures put { IfOk result (λ i. PutAt self.old w h i self.new) }
+        ensures put { IfOk result (λ i. PutAt self.old size.w size.h i self.new) }
     {
-        let Some(place) = self.place(w, h) else {
+        let Some(place) = self.place(size.w, size.h) else {
             return Err(CacheFault::NoFit);
         };
-        Ok(self.put(place, w, h))
+        Ok(self.put(place, size.w, size.h))
     }
 
     fn get(&self, id: u32) -> Option<Image> {

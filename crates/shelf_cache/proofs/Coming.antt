@@ -1,5 +1,6 @@
 -- What `put` leaves, from the contracts of the calls that it makes.
-use Rattle.std.proofs.Common.{◌≡◌, ℕ, ◌+◌, ◌/◌, ◌%◌, ◌<◌, ◌≤◌, true, List, length, set, Some, sym, refl, subst, arith}
+use Rattle.std.proofs.Common.{◌≡◌, ℕ, ◌+◌, ◌/◌, ◌%◌, ◌<◌, ◌≤◌, true, max, List, length, set, Some, sym, refl, subst, arith}
+use Rattle.std.proofs.lemmas.Bool.Decides.{nat_tests}
 use Rattle.image_cache.specs.Caches.{Added}
 use Rattle.shelf_cache.specs.declared.shelf.Shelf.{Shelf}
 use Rattle.shelf_cache.specs.declared.shelf.Spot.{Spot}
@@ -21,6 +22,10 @@ pub record Come (g : Shelves) (w h i : ℕ) (p : Place) (shelves : List Shelf) (
   pub image : live_of spots (g.live + 1) i ≡ Some (image_of (put_on i p w h))
   pub shelf : shelves ≡ set g.shelves p.at (filled p.shelf w)
   pub stands : standing ≡ raised g.standing p.at
+
+-- a page reaches as far as it did, or to the place
+pub max_reach : (n k : ℕ) → max n (k + 1) ≡ reach n k
+max_reach n k = grind (arith, nat_tests)
 
 module _ (g : Shelves) (w h : ℕ) (p : Place) (fit : FitIn g w h p) where
   size : (g.live < 256) × (0 < w) × (w ≤ g.width) × (0 < h) × (h ≤ g.height)

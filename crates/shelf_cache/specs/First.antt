@@ -1,14 +1,15 @@
 -- The first number that passes, and how many pass, by recursion on the bound.
-use Rattle.std.specs.Prelude.{◌≡◌, ℕ, zero, suc, ◌+◌, ◌<◌, ◌≤◌, Bool, true, false, cond, Some, None, Option, refl}
+use Rattle.std.specs.Prelude.{◌≡◌, ℕ, zero, suc, ◌+◌, ◌<◌, ◌≤◌, Bool, true, false, cond, Some, None, Option, MatchOption, refl}
+use Rattle.std.specs.Option.{option_map, option_or}
 use Rattle.std.proofs.Common.{sym, ap, subst, ◌∙◌, ⊎_elim, arith, add-one}
 use Rattle.std.proofs.lemmas.Bool.{cases_lt}
-use Rattle.shelf_cache.specs.Rows.{or_else, first_below, count_below, FirstBelow}
+use Rattle.shelf_cache.specs.Rows.{first_below, count_below, FirstBelow}
 
 pub first_none : (p : ℕ → Bool) (n : ℕ) → ((k : ℕ) → k < n → p k ≡ false) → first_below p n ≡ None
 unfolding first_below
 first_none p zero h = refl
 first_none p (suc n) h =
-    ap (λ o. or_else o (cond (p n) (Some n) None)) (first_none p n (λ k l. h k (omega arith)))
+    ap (λ o. option_or o (cond (p n) (Some n) None)) (first_none p n (λ k l. h k (omega arith)))
     ∙ ap (λ b. cond b (Some n) None) (h n (omega arith))
 
 pub first_some : (p : ℕ → Bool) (n i : ℕ) → i < n → p i ≡ true → ((k : ℕ) → k < i → p k ≡ false) → first_below p n ≡ Some i
@@ -16,16 +17,26 @@ unfolding first_below
 first_some p zero i l t h = absurd (omega arith)
 first_some p (suc n) i l t h =
     ⊎_elim
-    (λ m. ap (λ o. or_else o (cond (p n) (Some n) None)) (first_some p n i m t h))
+    (λ m. ap (λ o. option_or o (cond (p n) (Some n) None)) (first_some p n i m t h))
     (λ m.
     let e : n ≡ i = omega arith in
-    ap (λ o. or_else o (cond (p n) (Some n) None)) (first_none p n (λ k q. h k (omega arith)))
+    ap (λ o. option_or o (cond (p n) (Some n) None)) (first_none p n (λ k q. h k (omega arith)))
     ∙ (ap (λ j. cond (p j) (Some j) None) e ∙ ap (λ b. cond b (Some i) None) t))
     (cases_lt i n)
+
+-- what `find` says of a range
+pub first_in_range : (p : ℕ → Bool) (n : ℕ) (r : Option ℕ)
+    → MatchOption r ((k : ℕ) → 0 ≤ k → k < n → p k ≡ false) (λ i. (0 ≤ i) × (i < n) × (p i ≡ true) × ((k : ℕ) → 0 ≤ k → k < i → p k ≡ false)) → FirstBelow p n r
+first_in_range p n None f = λ k l. f k (omega arith) l
+first_in_range p n (Some i) f = (f.1, f.2, λ k l. f.3 k (omega arith) l)
 
 pub first_is : (p : ℕ → Bool) (n : ℕ) (r : Option ℕ) → FirstBelow p n r → first_below p n ≡ r
 first_is p n None f = first_none p n f
 first_is p n (Some i) f = first_some p n i f.0 f.1 f.2
+
+-- what is made of the first that passes
+pub map_first : {X : Type 0} (f : ℕ → X) (p : ℕ → Bool) (n : ℕ) (r : Option ℕ) → FirstBelow p n r → option_map f r ≡ option_map f (first_below p n)
+map_first f p n r h = ap (option_map f) (sym (first_is p n r h))
 
 -- this one passes, and none before
 pub first_here : (p : ℕ → Bool) (n i : ℕ) (b : Bool) → i < n → ((k : ℕ) → k < i → p k ≡ false) → b ≡ p i → b ≡ true → FirstBelow p n (Some i)
@@ -35,14 +46,14 @@ first_here p n i b l h e t = (l, sym e ∙ t, h)
 pub none_more : (p : ℕ → Bool) (n : ℕ) (b : Bool) → ((k : ℕ) → k < n → p k ≡ false) → b ≡ p n → b ≡ false → (k : ℕ) → k < n + 1 → p k ≡ false
 none_more p n b h e f k l = ⊎_elim (λ m. h k m) (λ m. let q : k ≡ n = omega arith in ap p q ∙ (sym e ∙ f)) (cases_lt k n)
 
-first_step : (p : ℕ → Bool) (n : ℕ) (o : Option ℕ) (b : Bool) → p n ≡ b → FirstBelow p n o → FirstBelow p (suc n) (or_else o (cond b (Some n) None))
+first_step : (p : ℕ → Bool) (n : ℕ) (o : Option ℕ) (b : Bool) → p n ≡ b → FirstBelow p n o → FirstBelow p (suc n) (option_or o (cond b (Some n) None))
 first_step p n (Some i) b e f = (omega (arith, f.0), f.1, f.2)
 first_step p n None true e f = (omega arith, e, f)
 first_step p n None false e f = λ k l. ⊎_elim (λ m. f k m) (λ m. let q : k ≡ n = omega arith in ap p q ∙ e) (cases_lt k n)
 
-pub first_more : (p : ℕ → Bool) (n : ℕ) (o r : Option ℕ) (b : Bool) → b ≡ p n → r ≡ or_else o (cond b (Some n) None) → FirstBelow p n o → FirstBelow p (n + 1) r
+pub first_more : (p : ℕ → Bool) (n : ℕ) (o r : Option ℕ) (b : Bool) → b ≡ p n → r ≡ option_or o (cond b (Some n) None) → FirstBelow p n o → FirstBelow p (n + 1) r
 first_more p n o r b e q f =
-    let P : ℕ → Type 0 = λ m. FirstBelow p m (or_else o (cond b (Some n) None)) in
+    let P : ℕ → Type 0 = λ m. FirstBelow p m (option_or o (cond b (Some n) None)) in
     let Q : Option ℕ → Type 0 = FirstBelow p (n + 1) in
     subst Q (sym q) (subst P (sym (add-one n)) (first_step p n o b (sym e) f))
 

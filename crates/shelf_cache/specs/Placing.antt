@@ -1,11 +1,12 @@
 -- Where an image goes, from the first shelf that takes it and the first place that opens.
-use Rattle.std.specs.Prelude.{◌≡◌, ℕ, ◌<◌, ◌≤◌, true, false, cond, ◌&&◌, List, Some, None, Option, nat_le, nat_lt, refl}
-use Rattle.std.proofs.Common.{ap, ◌∙◌, inl, inr}
-use Rattle.std.specs.Option.{option_map}
+use Rattle.std.specs.Prelude.{◌≡◌, ℕ, ◌<◌, ◌≤◌, Bool, true, false, cond, ◌&&◌, List, Some, None, Option, IfSome, nat_le, nat_lt, refl}
+use Rattle.std.proofs.Common.{sym, ap, ◌∙◌, subst, inl, inr}
+use Rattle.std.specs.Option.{option_map, option_or}
+use Rattle.std.proofs.lemmas.Option.{none-some, same_Some}
 use Rattle.std.proofs.lemmas.Bool.{lt-ltb, le-leb, ltb-true, leb-true, and_from, and_parts}
 use Rattle.shelf_cache.specs.declared.shelf.Shelf.{Shelf}
 use Rattle.shelf_cache.specs.declared.shelf.Place.{Place}
-use Rattle.shelf_cache.specs.Rows.{or_else, first_below, FirstBelow}
+use Rattle.shelf_cache.specs.Rows.{first_below, FirstBelow}
 use Rattle.shelf_cache.specs.Places.{takes_at, opens_at, admits, old_place, new_place, place_of, Fit}
 use Rattle.shelf_cache.specs.First.{first_is, first_spec}
 use Rattle.shelf_cache.specs.Rooms.{first_page}
@@ -24,7 +25,7 @@ admits_is live width height w h z =
 module _ (width height count : ℕ) (shelves : List Shelf) (standing : List ℕ) (live w h : ℕ) where
   -- from what the two searches find
   abbrev either : Option ℕ → Option ℕ → Option Place
-  either a b = or_else (option_map (old_place shelves) a) (option_map (new_place shelves h) b)
+  either a b = option_or (option_map (old_place shelves) a) (option_map (new_place shelves h) b)
 
   pub place_both : (a b : Option ℕ) → admits live width height w h ≡ true → FirstBelow (takes_at width w h shelves standing) 64 a → FirstBelow (opens_at count height h shelves standing) 64 b
       → place_of width height count shelves standing live w h ≡ either a b
@@ -44,3 +45,17 @@ module _ (width height count : ℕ) (shelves : List Shelf) (standing : List ℕ)
 
   pub place_none : admits live width height w h ≡ false → place_of width height count shelves standing live w h ≡ None
   place_none z = ap (λ t. cond t (either (first_below (takes_at width w h shelves standing) 64) (first_below (opens_at count height h shelves standing) 64)) None) z
+
+  fit_from : (t : Bool) (a b : Option ℕ) (p : Place) → admits live width height w h ≡ t → FirstBelow (takes_at width w h shelves standing) 64 a → FirstBelow (opens_at count height h shelves standing) 64 b
+      → cond t (either a b) None ≡ Some p → Fit width height count shelves standing live w h p
+  fit_from false a b p z f g e = absurd (none-some p e)
+  fit_from true None None p z f g e = absurd (none-some p e)
+  fit_from true None (Some s) p z f g e = subst (Fit width height count shelves standing live w h) (same_Some (new_place shelves h s) p e) (fit_new s z f g)
+  fit_from true (Some s) b p z f g e = subst (Fit width height count shelves standing live w h) (same_Some (old_place shelves s) p e) (fit_old s z f)
+
+  -- the place of an image, if there is one, is where it goes by the rules
+  pub fit_of : (r : Option Place) → r ≡ place_of width height count shelves standing live w h → IfSome r (Fit width height count shelves standing live w h)
+  fit_of None e = tt
+  fit_of (Some p) e =
+      fit_from (admits live width height w h) (first_below (takes_at width w h shelves standing) 64) (first_below (opens_at count height h shelves standing) 64) p refl
+      (first_spec (takes_at width w h shelves standing) 64) (first_spec (opens_at count height h shelves standing) 64) (sym e)

@@ -7,7 +7,6 @@ ghost use Rattle.shelf_cache.specs.Laws;
 ghost use Rattle.shelf_cache.specs.Whole.{sound_of};
 
 use crate::shelves::Shelves;
-use crate::steps::to_image;
 use image_cache::cache::ImageCache;
 use image_cache::fault::CacheFault;
 use image_cache::image::{Image, Size};
@@ -38,7 +37,7 @@ impl ImageCache for Shelves {
     }
 
     fn fits(&self, size: Size) -> bool {
-        self.place(size.w, size.h).is_some()
+        self.place(size).is_some()
     }
 
     // Besides what any cache does: it goes to the first shelf that takes it, else to a new one on the first page with room.
@@ -47,17 +46,12 @@ impl ImageCache for Shelves {
         ensures keeps { KeepsRefused result self.old self.new }
         ensures put { IfOk result (λ i. PutAt self.old size.w size.h i self.new) }
     {
-        let Some(place) = self.place(size.w, size.h) else {
-            return Err(CacheFault::NoFit);
-        };
-        Ok(self.put(place, size.w, size.h))
+        let place = self.place(size).ok_or(CacheFault::NoFit)?;
+        Ok(self.put(place, size))
     }
 
     fn get(&self, id: u32) -> Option<Image> {
-        let Some(at) = self.find(id) else {
-            return None;
-        };
-        Some(to_image(self.spots[at]))
+        self.find(id).map(|at| Image::from(self.spots[at]))
     }
 
     // Besides what any cache does: a shelf that becomes empty starts from its left again, and empty lowest shelves vanish.
@@ -66,10 +60,8 @@ impl ImageCache for Shelves {
         ensures keeps { KeepsRefused result self.old self.new }
         ensures leaves { OnOk result (LeftBy self.old id self.new) }
     {
-        let Some(k) = self.find(id) else {
-            return Err(CacheFault::NotLive);
-        };
-        self.remove(id, k);
+        let at = self.find(id).ok_or(CacheFault::NotLive)?;
+        self.remove(at);
         Ok(())
     }
 }

@@ -1,9 +1,9 @@
 -- The spots after one of them left: each other is where it was or one place further down, and it is the last.
-use Rattle.std.proofs.Common.{◌≡◌, ℕ, zero, suc, ◌+◌, ◌-◌, ◌<◌, ◌≤◌, Bool, cond, ltb, List, length, drop, sym, ap, ◌∙◌, subst, ⊎_elim, arith}
-use Rattle.std.proofs.lemmas.List.{get_or-set_same, get_or-set_other, get_or_append_left, length-append, length-drop}
+use Rattle.std.proofs.Common.{◌≡◌, ℕ, zero, suc, ◌+◌, ◌-◌, ◌<◌, ◌≤◌, Bool, cond, ltb, List, [], ◌∷◌, length, sym, ap, ◌∙◌, subst, ⊎_elim, arith}
+use Rattle.std.proofs.lemmas.List.{get_or_append_left, get_or_at}
 use Rattle.std.proofs.lemmas.List.Edits.{length-remove, get_or-remove_below, get_or-remove_above}
 use Rattle.std.proofs.lemmas.Bool.{cases_eq, cases_lt, lt-ltb, le-ltb}
-use Rattle.lists.specs.Lists.{removed, closed_up}
+use Rattle.std.specs.List.{remove}
 use Rattle.shelf_cache.specs.declared.shelf.Spot.{Spot}
 use Rattle.shelf_cache.specs.Rows.{no_spot, spot_at, count_below}
 use Rattle.shelf_cache.specs.Places.{left_of}
@@ -59,27 +59,20 @@ count_moved q k (suc n) l m =
     (cases_lt k (suc n))
 
 module _ (spots : List Spot) (k : ℕ) (n : length spots ≡ 256) (kl : k < 256) where
-  short : length (removed spots k) ≡ 255
+  short : length (remove spots k) ≡ 255
   short = let r = length-remove spots k (omega arith) in omega arith
-
-  whole : length (closed_up spots k) ≡ 256
-  whole = length-append (removed spots k) (drop (length (removed spots k)) spots) ∙ (ap (λ m. length (removed spots k) + m) (length-drop (length (removed spots k)) spots) ∙ omega (arith, short))
 
   pub moved_is : (j : ℕ) → j < 256 → spot_at (left_of spots k) j ≡ spot_at spots (was k j)
   moved_is j l =
       ⊎_elim
-      (λ e.
-      ap (λ i. spot_at (left_of spots k) i) e
-      ∙ (get_or-set_same (closed_up spots k) 255 (spot_at spots k) no_spot (omega (arith, whole))
-      ∙ ap (λ i. spot_at spots i) (sym (was_last k j (omega arith) (omega arith)))))
+      (λ e. get_or_at (remove spots k) (spot_at spots k) [] no_spot j (omega (arith, short)) ∙ ap (λ i. spot_at spots i) (sym (was_last k j (omega arith) (omega arith))))
       (λ ne.
-      let short-of : j < 255 = ⊎_elim (λ m. m) (λ m. absurd (ne (omega arith))) (cases_lt j 255) in
-      get_or-set_other (closed_up spots k) 255 j (spot_at spots k) no_spot ne
-      ∙ (get_or_append_left (removed spots k) (drop (length (removed spots k)) spots) no_spot j (omega (arith, short))
+      let m : j < 255 = ⊎_elim (λ m. m) (λ m. absurd (ne (omega arith))) (cases_lt j 255) in
+      get_or_append_left (remove spots k) (spot_at spots k ∷ []) no_spot j (omega (arith, short))
       ∙ ⊎_elim
-      (λ m. get_or-remove_below spots k no_spot j m (omega arith) ∙ ap (λ i. spot_at spots i) (sym (was_low k j m)))
-      (λ m. get_or-remove_above spots k no_spot j m (omega arith) ∙ ap (λ i. spot_at spots i) (sym (was_high k j m short-of)))
-      (cases_lt j k)))
+      (λ b. get_or-remove_below spots k no_spot j b (omega arith) ∙ ap (λ i. spot_at spots i) (sym (was_low k j b)))
+      (λ b. get_or-remove_above spots k no_spot j b (omega arith) ∙ ap (λ i. spot_at spots i) (sym (was_high k j b m)))
+      (cases_lt j k))
       (cases_eq j 255)
 
   -- what holds of each where it was, at its new place, holds of all

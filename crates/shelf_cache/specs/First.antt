@@ -1,8 +1,10 @@
 -- The first number that passes, and how many pass, by recursion on the bound.
-use Rattle.std.specs.Prelude.{◌≡◌, ℕ, zero, suc, ◌+◌, ◌<◌, ◌≤◌, Bool, true, false, cond, Some, None, Option, MatchOption, refl}
+use Rattle.std.specs.Prelude.{◌≡◌, ℕ, zero, suc, ◌+◌, ◌<◌, ◌≤◌, Bool, true, false, cond, List, length, take, slice_index_or, Some, None, Option, MatchOption, refl}
+use Rattle.std.specs.List.{AllWithin, HoldsAt}
 use Rattle.std.specs.Option.{option_map, option_or}
 use Rattle.std.proofs.Common.{sym, ap, subst, ◌∙◌, ⊎_elim, arith, add-one}
 use Rattle.std.proofs.lemmas.Bool.{cases_lt}
+use Rattle.std.proofs.lemmas.List.{get_or-take, length-take-le}
 use Rattle.shelf_cache.specs.Rows.{first_below, count_below, FirstBelow}
 
 pub first_none : (p : ℕ → Bool) (n : ℕ) → ((k : ℕ) → k < n → p k ≡ false) → first_below p n ≡ None
@@ -29,6 +31,16 @@ pub first_in_range : (p : ℕ → Bool) (n : ℕ) (r : Option ℕ)
     → MatchOption r ((k : ℕ) → 0 ≤ k → k < n → p k ≡ false) (λ i. (0 ≤ i) × (i < n) × (p i ≡ true) × ((k : ℕ) → 0 ≤ k → k < i → p k ≡ false)) → FirstBelow p n r
 first_in_range p n None f = λ k l. f k (omega arith) l
 first_in_range p n (Some i) f = (f.1, f.2, λ k l. f.3 k (omega arith) l)
+
+-- what `position` says of the first n of a list
+pub first_in_list : {X : Type 0} (p : X → Bool) (xs : List X) (n : ℕ) (d : X) (r : Option ℕ) → n ≤ length xs
+    → MatchOption r (AllWithin (λ x. p x ≡ false) (take n xs) 0 (length (take n xs)))
+    (λ i. (i < length (take n xs)) × HoldsAt (λ x. p x ≡ true) (take n xs) i × AllWithin (λ x. p x ≡ false) (take n xs) 0 i)
+    → FirstBelow (λ k. p (slice_index_or xs k d)) n r
+first_in_list p xs n d None l f = λ k m. ap p (sym (get_or-take n xs k d m)) ∙ f k d (omega arith) (omega (arith, length-take-le n xs l))
+first_in_list p xs n d (Some i) l f =
+    let m : i < n = omega (arith, f.0, length-take-le n xs l) in
+    (m, ap p (sym (get_or-take n xs i d m)) ∙ f.1 d, λ k j. ap p (sym (get_or-take n xs k d (omega arith))) ∙ f.2 k d (omega arith) j)
 
 pub first_is : (p : ℕ → Bool) (n : ℕ) (r : Option ℕ) → FirstBelow p n r → first_below p n ≡ r
 first_is p n None f = first_none p n f

@@ -13,9 +13,9 @@
 --     Fresh width height count g     g are new shelves on pages of those sizes
 --     SideOf n r                     the answer r to a call for the side of a page
 --     Opened width height count r    the answer r to a call for such shelves
-use Rattle.std.specs.Prelude.{◌≡◌, ℕ, zero, suc, ◌+◌, ◌-◌, ◌*◌, ◌/◌, ◌%◌, ◌<◌, ◌≤◌, Bool, true, false, cond, ◌&&◌, ◌⊎◌, List, is_some, Some, None, Ok, Err, Option, Result, ◌==◌, ◌≢◌, nat_le, nat_lt, slice_set}
+use Rattle.std.specs.Prelude.{◌≡◌, ℕ, zero, suc, ◌+◌, ◌-◌, ◌*◌, ◌/◌, ◌%◌, ◌<◌, ◌≤◌, Bool, true, false, cond, ◌&&◌, ◌⊎◌, List, [], ◌∷◌, ◌++◌, is_some, Some, None, Ok, Err, Option, Result, ◌==◌, ◌≢◌, nat_le, nat_lt, slice_set}
 use Rattle.std.specs.Option.{option_map, option_or}
-use Rattle.lists.specs.Lists.{closed_up}
+use Rattle.std.specs.List.{remove}
 use Rattle.image_cache.specs.Faults.{cache_number}
 use Rattle.image_cache.specs.Caches.{Cache, Empty}
 use Rattle.image_cache.specs.declared.image.Image.{Image}
@@ -201,7 +201,7 @@ Opened width height count (Err e) = Outside width height count e
 
 -- the spots after the image at k left: the later ones are one place further down, and its own is the last, so that its id is free
 abbrev pub left_of : List Spot → ℕ → List Spot
-left_of spots k = slice_set (closed_up spots k) 255 (spot_at spots k)
+left_of spots k = remove spots k ++ spot_at spots k ∷ []
 
 -- 256 spots with the ids 0 to 255
 abbrev pub Numbered : List Spot → Type 0

@@ -3,6 +3,7 @@
 --     takes_at .. s           a shelf that takes the image stands at the place s
 --     opens_at .. s           a new shelf of height h can be opened at the place s
 --     admits live width height w h   a spot is free, and the size is from 1 by 1 to the page
+--     taking g w h s, opening g h s   the same two of the shelves g
 --     FitIn g w h p           p is where the image goes, by the rules above
 --     place_for g w h         that place, if there is one
 --     Finds g i r             r is the place of the image i, if there is one
@@ -123,6 +124,13 @@ cache_of_shelves g = cache_of g.width g.height g.count g.shelves g.standing g.sp
 
 abbrev pub place_for : Shelves → ℕ → ℕ → Option Place
 place_for g w h = place_of g.width g.height g.count g.shelves g.standing g.live w h
+
+-- which places have a shelf that takes it, and at which a shelf of height h can be opened
+abbrev pub taking : Shelves → ℕ → ℕ → ℕ → Bool
+taking g w h = takes_at g.width w h g.shelves g.standing
+
+abbrev pub opening : Shelves → ℕ → ℕ → Bool
+opening g h = opens_at g.count g.height h g.shelves g.standing
 
 abbrev pub FitIn : Shelves → ℕ → ℕ → Place → Type 0
 FitIn g w h p = Fit g.width g.height g.count g.shelves g.standing g.live w h p

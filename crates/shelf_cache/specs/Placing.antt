@@ -34,13 +34,10 @@ module _ (width height count : ℕ) (shelves : List Shelf) (standing : List ℕ)
       ∙ (ap (λ o. either o (first_below (opens_at count height h shelves standing) 64)) (first_is (takes_at width w h shelves standing) 64 a f)
       ∙ ap (λ o. either a o) (first_is (opens_at count height h shelves standing) 64 b g))
 
-  pub place_old : (s : ℕ) → admits live width height w h ≡ true → FirstBelow (takes_at width w h shelves standing) 64 (Some s) → place_of width height count shelves standing live w h ≡ Some (old_place shelves s)
-  place_old s z f = place_both (Some s) (first_below (opens_at count height h shelves standing) 64) z f (first_spec (opens_at count height h shelves standing) 64)
-
-  pub fit_old : (s : ℕ) → admits live width height w h ≡ true → FirstBelow (takes_at width w h shelves standing) 64 (Some s) → Fit width height count shelves standing live w h (old_place shelves s)
+  fit_old : (s : ℕ) → admits live width height w h ≡ true → FirstBelow (takes_at width w h shelves standing) 64 (Some s) → Fit width height count shelves standing live w h (old_place shelves s)
   fit_old s z f = record { admitted = z; there = f.0; chosen = inl (record { is = refl; takes_it = f.1; none_before = f.2 }) }
 
-  pub fit_new : (s : ℕ) → admits live width height w h ≡ true → FirstBelow (takes_at width w h shelves standing) 64 None → FirstBelow (opens_at count height h shelves standing) 64 (Some s) → Fit width height count shelves standing live w h (new_place shelves h s)
+  fit_new : (s : ℕ) → admits live width height w h ≡ true → FirstBelow (takes_at width w h shelves standing) 64 None → FirstBelow (opens_at count height h shelves standing) 64 (Some s) → Fit width height count shelves standing live w h (new_place shelves h s)
   fit_new s z f g = record { admitted = z; there = g.0; chosen = inr (record { no_shelf_takes = f; is = refl; opens = g.1; none_before = g.2; page = first_page count height h shelves standing s g.1 g.2 }) }
 
   pub place_none : admits live width height w h ≡ false → place_of width height count shelves standing live w h ≡ None

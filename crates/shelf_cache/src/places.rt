@@ -1,7 +1,7 @@
 // Where the next image goes.
-ghost use Rattle.std.specs.Prelude.{◌≡◌, ◌<◌, option_map, IfSome};
-ghost use Rattle.shelf_cache.specs.Rows.{first_below, FirstBelow};
-ghost use Rattle.shelf_cache.specs.Places.{takes_at, end_above, opens_at, admits, old_place, new_place, place_for, FitIn};
+ghost use Rattle.std.specs.Prelude.{◌≡◌, ◌/◌, ◌%◌, ◌<◌, ◌≤◌, option_map, IfSome};
+ghost use Rattle.shelf_cache.specs.Rows.{on_page, first_below, FirstBelow};
+ghost use Rattle.shelf_cache.specs.Places.{end_above, admits, old_place, new_place, taking, opening, place_for, FitIn};
 
 use crate::shelf::{Place, Shelf};
 use crate::shelves::{MOST_IMAGES, PAGE_PLACES, PLACES, Shelves};
@@ -20,15 +20,16 @@ impl Shelves {
     // Whether a shelf stands at that place and takes the image.
     fn takes(&self, at: usize, size: Size) -> bool
         requires { at < 64 }
-        ensures { result ≡ takes_at self.now.width size.w size.h self.now.shelves self.now.standing at }
+        ensures { result ≡ taking self.now size.w size.h at }
     {
         at % PAGE_PLACES < self.standing[at / PAGE_PLACES]
             && self.shelves[at].takes(size, self.width)
     }
 
-    // Where the shelf above that place ends: 0 at the top of a page.
-    fn end_above(&self, at: usize) -> u32
-        requires { at < 64 }
+    // Where the shelf above that place, which has one or is the next of its page, ends: 0 at the top of a page.
+    fn end_above(&self, at: usize) -> u16
+        requires within { at < 64 }
+        requires next { at % 16 ≤ on_page self.now.standing (at / 16) }
         ensures { result ≡ end_above self.now.shelves at }
     {
         if at % PAGE_PLACES == 0 {
@@ -41,30 +42,30 @@ impl Shelves {
     // Whether a shelf of that height can be opened at that place: below the last shelf of a page, with that height left.
     fn opens(&self, at: usize, height: u16) -> bool
         requires { at < 64 }
-        ensures { result ≡ opens_at self.now.count self.now.height height self.now.shelves self.now.standing at }
+        ensures { result ≡ opening self.now height at }
     {
         at < PAGE_PLACES * self.count as usize
             && at % PAGE_PLACES == self.standing[at / PAGE_PLACES]
-            && u64::from(self.end_above(at)) + u64::from(height) <= u64::from(self.height)
+            && u32::from(self.end_above(at)) + u32::from(height) <= u32::from(self.height)
     }
 
     // The first shelf that takes the image.
     fn first_taking(&self, size: Size) -> Option<usize>
-        ensures { FirstBelow (takes_at self.now.width size.w size.h self.now.shelves self.now.standing) 64 result }
+        ensures { FirstBelow (taking self.now size.w size.h) 64 result }
     {
         (0..PLACES).find(|at| self.takes(*at, size))
     }
 
     // The first place where a shelf of that height can be opened.
     fn first_opening(&self, height: u16) -> Option<usize>
-        ensures { FirstBelow (opens_at self.now.count self.now.height height self.now.shelves self.now.standing) 64 result }
+        ensures { FirstBelow (opening self.now height) 64 result }
     {
         (0..PLACES).find(|at| self.opens(*at, height))
     }
 
     // The first shelf that takes the image, as it is.
     fn old_place(&self, size: Size) -> Option<Place>
-        ensures { result ≡ option_map (old_place self.now.shelves) (first_below (takes_at self.now.width size.w size.h self.now.shelves self.now.standing) 64) }
+        ensures { result ≡ option_map (old_place self.now.shelves) (first_below (taking self.now size.w size.h) 64) }
     {
         let at = self.first_taking(size)?;
         Some(Place {
@@ -75,13 +76,13 @@ impl Shelves {
 
     // A new shelf of that height below the last of the first page with room.
     fn new_place(&self, height: u16) -> Option<Place>
-        ensures { result ≡ option_map (new_place self.now.shelves height) (first_below (opens_at self.now.count self.now.height height self.now.shelves self.now.standing) 64) }
+        ensures { result ≡ option_map (new_place self.now.shelves height) (first_below (opening self.now height) 64) }
     {
         let at = self.first_opening(height)?;
         Some(Place {
             at,
             shelf: Shelf {
-                top: self.end_above(at) as u16,
+                top: self.end_above(at),
                 height,
                 ..Shelf::EMPTY
             },

@@ -51,13 +51,10 @@ module _ (g : Shelves) (w h : ℕ) (p : Place) (fit : FitIn g w h p) where
       let t = fit.there in
       let l : g.live < length g.spots = omega (arith, spare) in
       let S = put_sound g.width g.height g.count g.shelves g.standing g.spots g.live (sound_of g) w h size.1 size.3 p ready_here (omega arith) (omega arith) spare l in
-      let N : ℕ → Type 0 = λ n. Come g w h i p (set g.shelves p.at z) (set g.standing (p.at / 16) n) (set g.spots g.live a) in
-      let T : Shelf → Type 0 = λ z. Come g w h i p (set g.shelves p.at z) standing (set g.spots g.live a) in
-      let U : Spot → Type 0 = λ a. Come g w h i p shelves standing (set g.spots g.live a) in
-      subst N (sym f) (subst T (sym q) (subst U (sym r) (record {
+      rw (f, q, r) (record {
         sound = S;
         adds = added_is g.width g.height g.count g.shelves shelves g.standing standing g.spots g.live (sound_of g) l (put_on i p w h) refl S;
         image = live_here g.width g.height g.count g.shelves shelves g.standing standing g.spots g.live (sound_of g) l (put_on i p w h) refl S;
         shelf = refl;
         stands = refl;
-      })))
+      })

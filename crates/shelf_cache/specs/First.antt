@@ -4,6 +4,7 @@ use Rattle.std.specs.List.{AllWithin, HoldsAt}
 use Rattle.std.specs.Option.{option_map, option_or}
 use Rattle.std.proofs.Common.{sym, ap, subst, ◌∙◌, ⊎_elim, arith, add-one}
 use Rattle.std.proofs.lemmas.Bool.{cases_lt}
+use Rattle.std.proofs.lemmas.Bool.Decides.{nat_tests}
 use Rattle.std.proofs.lemmas.List.{get_or-take, length-take-le}
 use Rattle.shelf_cache.specs.Rows.{first_below, count_below, FirstBelow}
 
@@ -61,14 +62,10 @@ unfolding first_below
 first_spec p zero = λ k l. absurd (omega arith)
 first_spec p (suc n) = first_step p n (first_below p n) (p n) refl (first_spec p n)
 
-one_more : (b : Bool) → cond b 1 0 ≤ 1
-one_more true = omega arith
-one_more false = omega arith
-
 pub count_le : (p : ℕ → Bool) (n : ℕ) → count_below p n ≤ n
 unfolding count_below
 count_le p zero = omega arith
-count_le p (suc n) = omega (arith, count_le p n, one_more (p n))
+count_le p (suc n) = let h = count_le p n in grind (arith, nat_tests)
 
 pub count_more : (p : ℕ → Bool) (n : ℕ) → count_below p (n + 1) ≡ count_below p n + cond (p n) 1 0
 unfolding count_below

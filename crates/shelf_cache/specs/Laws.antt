@@ -1,7 +1,8 @@
 -- Sound shelves are a lawful image cache: the laws follow from Sound alone.
 use Rattle.std.specs.Prelude.{◌≡◌, ℕ, ◌+◌, ◌*◌, ◌/◌, ◌%◌, ◌^◌, ◌<◌, ◌≤◌, true, false, ◌&&◌, List, is_some, Some, None, ◌≢◌, nat_le, nat_lt, refl}
 use Rattle.std.proofs.Common.{sym, ap, subst, ◌∙◌, ⊎_elim, arith, lit<}
-use Rattle.std.proofs.lemmas.Bool.{cases_eq, cases_lt, lt-ltb, le-ltb, le-leb, eq-eqb, and_from, and_left, and_right}
+use Rattle.std.proofs.lemmas.Bool.{cases_eq, cases_lt, le-ltb, and_left, and_right}
+use Rattle.std.proofs.lemmas.Bool.Decides.{nat_tests}
 use Rattle.image_cache.specs.Caches.{Pixel, In, Inside, Lawful}
 use Rattle.image_cache.specs.declared.image.Image.{Image}
 use Rattle.shelf_cache.specs.declared.shelf.Shelf.{Shelf}
@@ -58,8 +59,9 @@ module _ (width height count : ℕ) (shelves : List Shelf) (standing : List ℕ)
       let gone = no_shelves none in
       let z = admitted live width height w h (omega (arith, none_live none)) w₀ w₁ h₀ h₁ in
       let f : (k : ℕ) → k < 64 → takes_at width w h shelves standing k ≡ false = λ k _. and_left _ _ (le-ltb (k % 16) (on_page standing (k / 16)) (gone k)) in
-      let o : opens_at count height h shelves standing 0 ≡ true =
-      and_from _ _ (lt-ltb 0 (16 * count) (omega (arith, S.pages))) (and_from _ _ (eq-eqb 0 (on_page standing 0) (omega (arith, gone 0))) (le-leb (0 + h) height (omega arith))) in
+      let g = gone 0 in
+      let s = S.pages in
+      let o : opens_at count height h shelves standing 0 ≡ true = grind (arith, nat_tests) in
       let e = place_both width height count shelves standing live w h None (Some 0) z f (omega arith, o, λ k l. absurd (omega arith)) in
       ap is_some e
 

@@ -1,9 +1,9 @@
 -- Where an image goes, from the first shelf that takes it and the first place that opens.
 use Rattle.std.specs.Prelude.{◌≡◌, ℕ, ◌<◌, ◌≤◌, Bool, true, false, cond, ◌&&◌, List, Some, None, Option, IfSome, nat_le, nat_lt, refl}
-use Rattle.std.proofs.Common.{sym, ap, ◌∙◌, subst, inl, inr}
+use Rattle.std.proofs.Common.{arith, sym, ap, ◌∙◌, subst, inl, inr}
 use Rattle.std.specs.Option.{option_map, option_or}
 use Rattle.std.proofs.lemmas.Option.{none-some, same_Some}
-use Rattle.std.proofs.lemmas.Bool.{lt-ltb, le-leb, ltb-true, leb-true, and_from, and_parts}
+use Rattle.std.proofs.lemmas.Bool.Decides.{nat_tests}
 use Rattle.shelf_cache.specs.declared.shelf.Shelf.{Shelf}
 use Rattle.shelf_cache.specs.declared.shelf.Place.{Place}
 use Rattle.shelf_cache.specs.Rows.{first_below, FirstBelow}
@@ -12,15 +12,10 @@ use Rattle.shelf_cache.specs.First.{first_is, first_spec}
 use Rattle.shelf_cache.specs.Rooms.{first_page}
 
 pub admitted : (live width height w h : ℕ) → live < 256 → 0 < w → w ≤ width → 0 < h → h ≤ height → admits live width height w h ≡ true
-admitted live width height w h l a b c d = and_from _ _ (lt-ltb live 256 l) (and_from _ _ (and_from _ _ (lt-ltb 0 w a) (le-leb w width b)) (and_from _ _ (lt-ltb 0 h c) (le-leb h height d)))
+admitted live width height w h l a b c d = grind (arith, nat_tests)
 
 pub admits_is : (live width height w h : ℕ) → admits live width height w h ≡ true → (live < 256) × (0 < w) × (w ≤ width) × (0 < h) × (h ≤ height)
-admits_is live width height w h z =
-    let l = and_parts (nat_lt live 256) ((nat_lt 0 w && nat_le w width) && (nat_lt 0 h && nat_le h height)) z in
-    let p = and_parts (nat_lt 0 w && nat_le w width) (nat_lt 0 h && nat_le h height) l.1 in
-    let a = and_parts (nat_lt 0 w) (nat_le w width) p.0 in
-    let b = and_parts (nat_lt 0 h) (nat_le h height) p.1 in
-    (ltb-true _ _ l.0, ltb-true _ _ a.0, leb-true _ _ a.1, ltb-true _ _ b.0, leb-true _ _ b.1)
+admits_is live width height w h z = grind (arith, nat_tests)
 
 module _ (width height count : ℕ) (shelves : List Shelf) (standing : List ℕ) (live w h : ℕ) where
   -- from what the two searches find

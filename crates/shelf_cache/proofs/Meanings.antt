@@ -36,7 +36,7 @@ module _ (width height count : ℕ) (shelves shelves' : List Shelf) (standing st
           (λ k m e. (k, (omega arith, get_or-set_other spots live k a no_spot (λ q. omega arith))))
           (λ k m e.
           let other : k ≡ live → ⊥ = λ q. ne (sym e ∙ (ap (λ n. (spot_at (set spots live a) n).id) q ∙ ap (λ (b : Spot). b.id) here)) in
-          (k, (⊎_elim (λ n. n) (λ n. absurd (other (omega arith))) (cases_lt k live), get_or-set_other spots live k a no_spot other)));
+          (k, (omega arith, get_or-set_other spots live k a no_spot other)));
       sizes = record { width = refl; height = refl; count = refl; widest = refl; highest = refl };
     }
 

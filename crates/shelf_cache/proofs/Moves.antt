@@ -60,7 +60,7 @@ module _ (spots : List Spot) (k : ℕ) (n : length spots ≡ 256) (kl : k < 256)
       ⊎_elim
       (λ e. get_or_at (remove spots k) (spot_at spots k) [] no_spot j (omega (arith, short)) ∙ ap (λ i. spot_at spots i) (sym (was_last k j (omega arith) (omega arith))))
       (λ ne.
-      let m : j < 255 = ⊎_elim (λ m. m) (λ m. absurd (ne (omega arith))) (cases_lt j 255) in
+      let m : j < 255 = omega arith in
       get_or_append_left (remove spots k) (spot_at spots k ∷ []) no_spot j (omega (arith, short))
       ∙ ⊎_elim
       (λ b. get_or-remove_below spots k no_spot j b (omega arith) ∙ ap (λ i. spot_at spots i) (sym (was_low k j b)))
@@ -79,7 +79,7 @@ module _ (spots : List Spot) (k : ℕ) (n : length spots ≡ 256) (kl : k < 256)
         ⊎_elim
         (λ m. (j, (omega arith, moved_is j (omega arith) ∙ ap (λ i. spot_at spots i) (was_low k j m))))
         (λ m.
-        let p : k < j = ⊎_elim (λ q. q) (λ q. absurd (ne (omega arith))) (cases_lt k j) in
+        let p : k < j = omega arith in
         let e : was k (j - 1) ≡ j = was_high k (j - 1) (omega arith) (omega arith) ∙ omega arith in
         (j - 1, (omega arith, moved_is (j - 1) (omega arith) ∙ ap (λ i. spot_at spots i) e)))
         (cases_lt j k)

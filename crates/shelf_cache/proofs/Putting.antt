@@ -68,7 +68,7 @@ module _ (width height count : ℕ) (shelves : List Shelf) (standing : List ℕ)
 
   -- the image, and each that was live
   each_live : (P : ℕ → Spot → Type 0) → P live image → ((k : ℕ) → k < live → P k (spot_at spots k)) → (k : ℕ) → k < live + 1 → P k (spot_at spots' k)
-  each_live P new old = each_spot (λ k a. k < live + 1 → P k a) (λ _. new) (λ k ne l. old k (⊎_elim (λ m. m) (λ m. absurd (ne (omega arith))) (cases_lt k live)))
+  each_live P new old = each_spot (λ k a. k < live + 1 → P k a) (λ _. new) (λ k ne l. old k (omega arith))
 
   same_id : (k : ℕ) → (spot_at spots' k).id ≡ (spot_at spots k).id
   same_id = each_spot (λ k a. a.id ≡ (spot_at spots k).id) refl (λ k _. refl)

@@ -1,5 +1,5 @@
 -- What `put` leaves, from the contracts of the calls that it makes.
-use Rattle.std.proofs.Common.{◌≡◌, ℕ, ◌+◌, ◌/◌, ◌%◌, ◌<◌, ◌≤◌, true, max, List, length, set, Some, sym, refl, subst, arith}
+use Rattle.std.proofs.Common.{◌≡◌, ℕ, ◌+◌, ◌/◌, ◌%◌, ◌<◌, ◌≤◌, true, max, List, length, set, Some, refl, arith}
 use Rattle.std.proofs.lemmas.Bool.Decides.{nat_tests}
 use Rattle.image_cache.specs.Caches.{Added}
 use Rattle.shelf_cache.specs.declared.shelf.Shelf.{Shelf}
@@ -10,11 +10,11 @@ use Rattle.shelf_cache.specs.Rows.{spot_at, on_page}
 use Rattle.shelf_cache.specs.Sound.{Sound, stands_on}
 use Rattle.shelf_cache.specs.Places.{cache_of, live_of, image_of, cache_of_shelves, FitIn, filled, put_on, reach, raised}
 use Rattle.shelf_cache.proofs.Meanings.{live_here, added_is}
-use Rattle.shelf_cache.specs.First.{count_le}
-use Rattle.shelf_cache.specs.Placing.{admits_is}
+use Rattle.shelf_cache.proofs.Counts.{count_le}
+use Rattle.shelf_cache.proofs.Fits.{admits_is}
 use Rattle.shelf_cache.proofs.Putting.{put_sound}
 use Rattle.shelf_cache.proofs.Ready.{Ready, ready}
-use Rattle.shelf_cache.specs.Whole.{sound_of}
+use Rattle.shelf_cache.proofs.Whole.{sound_of}
 
 pub record Come (g : Shelves) (w h i : ℕ) (p : Place) (shelves : List Shelf) (standing : List ℕ) (spots : List Spot) : Type 0 where
   pub sound : Sound g.width g.height g.count shelves standing spots (g.live + 1)

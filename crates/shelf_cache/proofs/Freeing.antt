@@ -8,7 +8,7 @@ use Rattle.shelf_cache.specs.declared.shelf.Spot.{Spot}
 use Rattle.shelf_cache.specs.Rows.{no_shelf, shelf_at, spot_at, on_page, There, count_below}
 use Rattle.shelf_cache.specs.Sound.{Sound, Sized, Placed, Bare, Lowered, stands_on}
 use Rattle.shelf_cache.specs.Places.{Settled, left_of, eased}
-use Rattle.shelf_cache.specs.First.{count_none, count_some}
+use Rattle.shelf_cache.proofs.Counts.{count_none, count_some}
 use Rattle.shelf_cache.proofs.Moves.{was, was_bound, was_live, was_one, moved_is, each_left, kept_at, count_left}
 use Rattle.shelf_cache.proofs.Rows.{by_row}
 

@@ -8,7 +8,7 @@ use Rattle.std.specs.List.{remove}
 use Rattle.shelf_cache.specs.declared.shelf.Spot.{Spot}
 use Rattle.shelf_cache.specs.Rows.{no_spot, spot_at, count_below}
 use Rattle.shelf_cache.specs.Places.{left_of}
-use Rattle.shelf_cache.specs.First.{count_same}
+use Rattle.shelf_cache.proofs.Counts.{count_same}
 
 -- where the spot now at j was
 abbrev pub was : ℕ → ℕ → ℕ

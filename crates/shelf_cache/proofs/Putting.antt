@@ -9,7 +9,7 @@ use Rattle.shelf_cache.specs.declared.shelf.Place.{Place}
 use Rattle.shelf_cache.specs.Rows.{no_shelf, no_spot, shelf_at, spot_at, on_page, There, count_below}
 use Rattle.shelf_cache.specs.Sound.{Sound, Idle, stands_on}
 use Rattle.shelf_cache.specs.Places.{filled, put_on, reach, raised}
-use Rattle.shelf_cache.specs.First.{count_more, count_same}
+use Rattle.shelf_cache.proofs.Counts.{count_more, count_same}
 use Rattle.shelf_cache.proofs.Rows.{by_row, back_row, here_row}
 use Rattle.shelf_cache.proofs.Ready.{Ready}
 

@@ -1,15 +1,15 @@
 -- What holds of the place that an image goes to, whether its shelf is there or new.
-use Rattle.std.proofs.Common.{◌≡◌, ℕ, ◌+◌, ◌-◌, ◌*◌, ◌/◌, ◌%◌, ◌<◌, ◌≤◌, true, cond, leb, List, sym, ap, subst, ⊎_elim, arith}
+use Rattle.std.proofs.Common.{◌≡◌, ℕ, ◌+◌, ◌-◌, ◌*◌, ◌/◌, ◌%◌, ◌<◌, ◌≤◌, true, cond, List, sym, ap, subst, ⊎_elim, arith}
 use Rattle.std.proofs.lemmas.Bool.{ne_eqb, cases_lt}
 use Rattle.std.proofs.lemmas.Bool.Decides.{nat_tests}
 use Rattle.shelf_cache.specs.declared.shelf.Shelf.{Shelf}
 use Rattle.shelf_cache.specs.declared.shelf.Spot.{Spot}
 use Rattle.shelf_cache.specs.declared.shelf.Place.{Place}
-use Rattle.shelf_cache.specs.Rows.{shelf_at, spot_at, on_page, stands, There, count_below}
+use Rattle.shelf_cache.specs.Rows.{shelf_at, spot_at, on_page, There, count_below}
 use Rattle.shelf_cache.specs.Sound.{Sound, stands_on}
-use Rattle.shelf_cache.specs.Places.{takes, takes_at, opens_at, end_above, old_place, new_place, Fit}
-use Rattle.shelf_cache.specs.First.{count_none}
-use Rattle.shelf_cache.specs.Rooms.{opens_is}
+use Rattle.shelf_cache.specs.Places.{takes_at, opens_at, end_above, old_place, new_place, Fit}
+use Rattle.shelf_cache.proofs.Counts.{count_none}
+use Rattle.shelf_cache.proofs.Rooms.{opens_is}
 
 -- a place at which an image can be put, so that all stays sound: its shelf stands or is the next of its page
 pub record Ready (width height count : ℕ) (shelves : List Shelf) (standing : List ℕ) (spots : List Spot) (live w h : ℕ) (p : Place) : Type 0 where

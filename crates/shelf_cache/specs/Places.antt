@@ -25,7 +25,7 @@ use Rattle.shelf_cache.specs.declared.shelf.Shelf.{Shelf}
 use Rattle.shelf_cache.specs.declared.shelf.Spot.{Spot}
 use Rattle.shelf_cache.specs.declared.shelf.Place.{Place}
 use Rattle.shelf_cache.specs.declared.shelves.Shelves.{Shelves}
-use Rattle.shelf_cache.specs.Rows.{shelf_at, spot_at, on_page, stands, There, first_below, FirstBelow}
+use Rattle.shelf_cache.specs.Rows.{shelf_at, spot_at, on_page, stands, There, first_below}
 use Rattle.shelf_cache.specs.Sound.{Side, Pages, Bare, Idle}
 
 abbrev pub takes : ℕ → ℕ → ℕ → Shelf → Bool

@@ -3,8 +3,7 @@ ghost use Rattle.std.specs.Prelude.{IfOk, OnOk};
 ghost use Rattle.shapes.specs.Answers.{KeepsRefused};
 ghost use Rattle.image_cache.specs.Caches.{Allocated, Freed};
 ghost use Rattle.shelf_cache.specs.Places.{cache_of_shelves, PutAt, LeftBy};
-ghost use Rattle.shelf_cache.specs.Laws;
-ghost use Rattle.shelf_cache.specs.Whole.{sound_of};
+ghost use Rattle.shelf_cache.specs.Laws.{lawful};
 
 use crate::shelves::Shelves;
 use image_cache::cache::ImageCache;
@@ -14,7 +13,7 @@ use image_cache::image::{Image, Size};
 impl ImageCache for Shelves {
     ghost meaning = { cache_of_shelves };
 
-    ghost lawful = { λ c. Laws.lawful c.width c.height c.count c.shelves c.standing c.spots c.live (sound_of c) };
+    ghost lawful = { lawful };
 
     fn page_width(&self) -> u16 {
         self.width

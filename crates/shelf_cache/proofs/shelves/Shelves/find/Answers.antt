@@ -8,7 +8,8 @@ use Rattle.shelf_cache.specs.declared.shelf.Spot.{Spot}
 use Rattle.shelf_cache.specs.declared.shelves.Shelves.{Shelves}
 use Rattle.shelf_cache.specs.Rows.{no_spot, spot_at, FirstBelow}
 use Rattle.shelf_cache.specs.Places.{has_at, image_of, Finds}
-use Rattle.shelf_cache.specs.First.{first_is, first_in_list}
+use Rattle.shelf_cache.specs.First.{first_is}
+use Rattle.shelf_cache.proofs.Searches.{first_in_list}
 use Rattle.shelf_cache.proofs.shelves.Shelves.find.Goals as goal
 
 finds : (g : Shelves) (i : ℕ) (r : Option ℕ) → FirstBelow (has_at g.spots i) g.live r → Finds g i r

@@ -3,7 +3,7 @@ use Rattle.std.proofs.Common.{◌≡◌, true, false, rules}
 use Rattle.std.proofs.lemmas.Iterator.{first_from_Range}
 use borrow.Author.Tests.{tests}
 use Rattle.shelf_cache.specs.Places.{taking}
-use Rattle.shelf_cache.specs.First.{first_in_range}
+use Rattle.shelf_cache.proofs.Searches.{first_in_range}
 use Rattle.shelf_cache.proofs.shelves.Shelves.first_taking.Goals as goal
 
 pub returns : goal.returns

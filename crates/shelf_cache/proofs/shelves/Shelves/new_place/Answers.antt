@@ -1,8 +1,8 @@
 -- The place at the first one that opens: it is the next of its page.
 use Rattle.std.proofs.Common.{None, Some, ◌∙◌, arith}
 use Rattle.shelf_cache.specs.Places.{opening, new_place}
-use Rattle.shelf_cache.specs.First.{map_first}
-use Rattle.shelf_cache.specs.Rooms.{opens_is}
+use Rattle.shelf_cache.proofs.Searches.{map_first}
+use Rattle.shelf_cache.proofs.Rooms.{opens_is}
 use Rattle.shelf_cache.proofs.shelves.Shelves.new_place.Goals as goal
 
 pub end_above-requires-clause-next : goal.end_above-requires-clause-next

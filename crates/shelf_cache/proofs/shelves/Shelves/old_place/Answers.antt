@@ -1,7 +1,7 @@
 -- The place at the first shelf that takes the image.
 use Rattle.std.proofs.Common.{None, Some, ◌∙◌}
 use Rattle.shelf_cache.specs.Places.{taking, old_place}
-use Rattle.shelf_cache.specs.First.{map_first}
+use Rattle.shelf_cache.proofs.Searches.{map_first}
 use Rattle.shelf_cache.proofs.shelves.Shelves.old_place.Goals as goal
 
 pub returns-in_err-at : goal.returns-in_err-at

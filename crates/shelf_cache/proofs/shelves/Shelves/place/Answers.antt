@@ -1,6 +1,6 @@
 -- The place is where the image goes.
 use Rattle.std.proofs.Common.{rules}
-use Rattle.shelf_cache.specs.Placing.{fit_of}
+use Rattle.shelf_cache.proofs.Fits.{fit_of}
 use Rattle.shelf_cache.proofs.shelves.Shelves.place.Goals as goal
 
 pub returns-clause-fit : goal.returns-clause-fit

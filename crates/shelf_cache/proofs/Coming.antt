@@ -1,5 +1,6 @@
 -- What `put` leaves, from the contracts of the calls that it makes.
-use Rattle.std.proofs.Common.{◌≡◌, ℕ, ◌+◌, ◌/◌, ◌%◌, ◌<◌, ◌≤◌, true, List, length, set, Some, sym, refl, subst, arith}
+use Rattle.std.proofs.Common.{◌≡◌, ℕ, ◌+◌, ◌/◌, ◌%◌, ◌<◌, ◌≤◌, true, max, List, length, set, Some, refl, arith}
+use Rattle.std.proofs.lemmas.Bool.Decides.{nat_tests}
 use Rattle.image_cache.specs.Caches.{Added}
 use Rattle.shelf_cache.specs.declared.shelf.Shelf.{Shelf}
 use Rattle.shelf_cache.specs.declared.shelf.Spot.{Spot}
@@ -9,11 +10,11 @@ use Rattle.shelf_cache.specs.Rows.{spot_at, on_page}
 use Rattle.shelf_cache.specs.Sound.{Sound, stands_on}
 use Rattle.shelf_cache.specs.Places.{cache_of, live_of, image_of, cache_of_shelves, FitIn, filled, put_on, reach, raised}
 use Rattle.shelf_cache.proofs.Meanings.{live_here, added_is}
-use Rattle.shelf_cache.specs.First.{count_le}
-use Rattle.shelf_cache.specs.Placing.{admits_is}
+use Rattle.shelf_cache.proofs.Counts.{count_le}
+use Rattle.shelf_cache.proofs.Fits.{admits_is}
 use Rattle.shelf_cache.proofs.Putting.{put_sound}
 use Rattle.shelf_cache.proofs.Ready.{Ready, ready}
-use Rattle.shelf_cache.specs.Whole.{sound_of}
+use Rattle.shelf_cache.proofs.Whole.{sound_of}
 
 pub record Come (g : Shelves) (w h i : ℕ) (p : Place) (shelves : List Shelf) (standing : List ℕ) (spots : List Spot) : Type 0 where
   pub sound : Sound g.width g.height g.count shelves standing spots (g.live + 1)
@@ -21,6 +22,10 @@ pub record Come (g : Shelves) (w h i : ℕ) (p : Place) (shelves : List Shelf) (
   pub image : live_of spots (g.live + 1) i ≡ Some (image_of (put_on i p w h))
   pub shelf : shelves ≡ set g.shelves p.at (filled p.shelf w)
   pub stands : standing ≡ raised g.standing p.at
+
+-- a page reaches as far as it did, or to the place
+pub max_reach : (n k : ℕ) → max n (k + 1) ≡ reach n k
+max_reach n k = grind (arith, nat_tests)
 
 module _ (g : Shelves) (w h : ℕ) (p : Place) (fit : FitIn g w h p) where
   size : (g.live < 256) × (0 < w) × (w ≤ g.width) × (0 < h) × (h ≤ g.height)
@@ -46,13 +51,10 @@ module _ (g : Shelves) (w h : ℕ) (p : Place) (fit : FitIn g w h p) where
       let t = fit.there in
       let l : g.live < length g.spots = omega (arith, spare) in
       let S = put_sound g.width g.height g.count g.shelves g.standing g.spots g.live (sound_of g) w h size.1 size.3 p ready_here (omega arith) (omega arith) spare l in
-      let N : ℕ → Type 0 = λ n. Come g w h i p (set g.shelves p.at z) (set g.standing (p.at / 16) n) (set g.spots g.live a) in
-      let T : Shelf → Type 0 = λ z. Come g w h i p (set g.shelves p.at z) standing (set g.spots g.live a) in
-      let U : Spot → Type 0 = λ a. Come g w h i p shelves standing (set g.spots g.live a) in
-      subst N (sym f) (subst T (sym q) (subst U (sym r) (record {
+      rw (f, q, r) (record {
         sound = S;
         adds = added_is g.width g.height g.count g.shelves shelves g.standing standing g.spots g.live (sound_of g) l (put_on i p w h) refl S;
         image = live_here g.width g.height g.count g.shelves shelves g.standing standing g.spots g.live (sound_of g) l (put_on i p w h) refl S;
         shelf = refl;
         stands = refl;
-      })))
+      })

@@ -2,21 +2,22 @@
 use Rattle.std.proofs.Common.{◌≡◌, ℕ, ◌+◌, ◌-◌, ◌*◌, ◌/◌, ◌%◌, ◌<◌, ◌≤◌, cond, eqb, List, length, set, sym, refl, ap, ◌∙◌, subst, ⊎_elim, arith}
 use Rattle.std.proofs.lemmas.List.{get_or-set_same, get_or-set_other}
 use Rattle.std.proofs.lemmas.Bool.{cases_eq, cases_lt, eq-eqb, ne_eqb}
+use Rattle.std.proofs.lemmas.Bool.Decides.{nat_tests}
 use Rattle.shelf_cache.specs.declared.shelf.Shelf.{Shelf}
 use Rattle.shelf_cache.specs.declared.shelf.Spot.{Spot}
 use Rattle.shelf_cache.specs.Rows.{no_shelf, shelf_at, spot_at, on_page, There, count_below}
 use Rattle.shelf_cache.specs.Sound.{Sound, Sized, Placed, Bare, Lowered, stands_on}
 use Rattle.shelf_cache.specs.Places.{Settled, left_of, eased}
-use Rattle.shelf_cache.specs.First.{count_none, count_some}
+use Rattle.shelf_cache.proofs.Counts.{count_none, count_some}
 use Rattle.shelf_cache.proofs.Moves.{was, was_bound, was_live, was_one, moved_is, each_left, kept_at, count_left}
 use Rattle.shelf_cache.proofs.Rows.{by_row}
 
 -- how far a shelf with one image less is used
 eased_one : (z : Shelf) → z.images ≡ 1 → (eased z).used ≡ 0
-eased_one z e = ap (λ b. cond b 0 z.used) (eq-eqb z.images 1 e)
+eased_one z e = grind (arith, nat_tests)
 
 eased_more : (z : Shelf) → (z.images ≡ 1 → ⊥) → (eased z).used ≡ z.used
-eased_more z ne = ap (λ b. cond b 0 z.used) (ne_eqb z.images 1 ne)
+eased_more z ne = grind (arith, nat_tests)
 
 module _ (width height count : ℕ) (shelves : List Shelf) (standing : List ℕ) (spots : List Spot) (live : ℕ) (S : Sound width height count shelves standing spots live)
     (k : ℕ) (n : length spots ≡ 256) (kl : k < live) (at : ℕ) (on-at : (spot_at spots k).shelf ≡ at) (al : at < length shelves) where

@@ -9,7 +9,7 @@ use Rattle.shelf_cache.specs.Sound.{Sound, Lowered}
 use Rattle.shelf_cache.specs.Places.{cache_of, cache_of_shelves, Settled, left_of, eased}
 use Rattle.shelf_cache.proofs.Meanings.{removed_is}
 use Rattle.shelf_cache.proofs.Freeing.{some_here, left_sound, settled}
-use Rattle.shelf_cache.specs.Whole.{sound_of}
+use Rattle.shelf_cache.proofs.Whole.{sound_of}
 
 pub record Left (g : Shelves) (i : ℕ) (shelves : List Shelf) (standing : List ℕ) (spots : List Spot) : Type 0 where
   pub sound : Sound g.width g.height g.count shelves standing spots (g.live - 1)

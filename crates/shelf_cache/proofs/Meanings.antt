@@ -1,7 +1,6 @@
 -- What an image that comes or goes changes of the cache's meaning: that image alone.
-use Rattle.std.proofs.Common.{◌≡◌, ℕ, ◌+◌, ◌-◌, ◌<◌, true, List, length, set, Some, sym, refl, ap, ◌∙◌, subst, ⊎_elim, arith}
+use Rattle.std.proofs.Common.{◌≡◌, ℕ, ◌+◌, ◌-◌, ◌<◌, true, List, length, set, Some, sym, refl, ap, ◌∙◌, subst, arith}
 use Rattle.std.proofs.lemmas.List.{get_or-set_same, get_or-set_other}
-use Rattle.std.proofs.lemmas.Bool.{cases_lt}
 use Rattle.image_cache.specs.Caches.{Added, Removed}
 use Rattle.shelf_cache.specs.declared.shelf.Shelf.{Shelf}
 use Rattle.shelf_cache.specs.declared.shelf.Spot.{Spot}
@@ -36,7 +35,7 @@ module _ (width height count : ℕ) (shelves shelves' : List Shelf) (standing st
           (λ k m e. (k, (omega arith, get_or-set_other spots live k a no_spot (λ q. omega arith))))
           (λ k m e.
           let other : k ≡ live → ⊥ = λ q. ne (sym e ∙ (ap (λ n. (spot_at (set spots live a) n).id) q ∙ ap (λ (b : Spot). b.id) here)) in
-          (k, (⊎_elim (λ n. n) (λ n. absurd (other (omega arith))) (cases_lt k live), get_or-set_other spots live k a no_spot other)));
+          (k, (omega arith, get_or-set_other spots live k a no_spot other)));
       sizes = record { width = refl; height = refl; count = refl; widest = refl; highest = refl };
     }
 

@@ -1,46 +1,39 @@
 -- The spots after one of them left: each other is where it was or one place further down, and it is the last.
-use Rattle.std.proofs.Common.{◌≡◌, ℕ, zero, suc, ◌+◌, ◌-◌, ◌<◌, ◌≤◌, Bool, cond, ltb, List, length, drop, sym, ap, ◌∙◌, subst, ⊎_elim, arith}
-use Rattle.std.proofs.lemmas.List.{get_or-set_same, get_or-set_other, get_or_append_left, length-append, length-drop}
+use Rattle.std.proofs.Common.{◌≡◌, ℕ, zero, suc, ◌+◌, ◌-◌, ◌<◌, ◌≤◌, Bool, cond, ltb, List, [], ◌∷◌, length, sym, ap, ◌∙◌, subst, ⊎_elim, arith}
+use Rattle.std.proofs.lemmas.List.{get_or_append_left, get_or_at}
 use Rattle.std.proofs.lemmas.List.Edits.{length-remove, get_or-remove_below, get_or-remove_above}
-use Rattle.std.proofs.lemmas.Bool.{cases_eq, cases_lt, lt-ltb, le-ltb}
-use Rattle.lists.specs.Lists.{removed, closed_up}
+use Rattle.std.proofs.lemmas.Bool.{cases_eq, cases_lt}
+use Rattle.std.proofs.lemmas.Bool.Decides.{nat_tests}
+use Rattle.std.specs.List.{remove}
 use Rattle.shelf_cache.specs.declared.shelf.Spot.{Spot}
 use Rattle.shelf_cache.specs.Rows.{no_spot, spot_at, count_below}
 use Rattle.shelf_cache.specs.Places.{left_of}
-use Rattle.shelf_cache.specs.First.{count_same}
+use Rattle.shelf_cache.proofs.Counts.{count_same}
 
 -- where the spot now at j was
 abbrev pub was : ℕ → ℕ → ℕ
 was k j = cond (ltb j k) j (cond (ltb j 255) (j + 1) k)
 
 was_low : (k j : ℕ) → j < k → was k j ≡ j
-was_low k j l = ap (λ b. cond b j (cond (ltb j 255) (j + 1) k)) (lt-ltb j k l)
+was_low k j l = grind (arith, nat_tests)
 
 was_high : (k j : ℕ) → k ≤ j → j < 255 → was k j ≡ j + 1
-was_high k j l m = ap (λ b. cond b j (cond (ltb j 255) (j + 1) k)) (le-ltb j k l) ∙ ap (λ b. cond b (j + 1) k) (lt-ltb j 255 m)
+was_high k j l m = grind (arith, nat_tests)
 
 was_last : (k j : ℕ) → k ≤ j → 255 ≤ j → was k j ≡ k
-was_last k j l m = ap (λ b. cond b j (cond (ltb j 255) (j + 1) k)) (le-ltb j k l) ∙ ap (λ b. cond b (j + 1) k) (le-ltb j 255 m)
-
-by_was : (k j : ℕ) (R : Type 0) → k < 256 → j < 256 → (j < k → was k j ≡ j → R) → (k ≤ j → j < 255 → was k j ≡ j + 1 → R) → (j ≡ 255 → was k j ≡ k → R) → R
-by_was k j R kl jl low high last =
-    ⊎_elim (λ l. low l (was_low k j l)) (λ l. ⊎_elim (λ m. high l m (was_high k j l m)) (λ m. last (omega arith) (was_last k j l m)) (cases_lt j 255)) (cases_lt j k)
+was_last k j l m = grind (arith, nat_tests)
 
 pub was_bound : (k j : ℕ) → k < 256 → j < 256 → was k j < 256
-was_bound k j kl jl = by_was k j (was k j < 256) kl jl (λ l e. omega arith) (λ l m e. omega arith) (λ l e. omega arith)
+was_bound k j kl jl = grind (arith, nat_tests)
 
 pub was_live : (k j live : ℕ) → k < live → live ≤ 256 → j < live - 1 → was k j < live
-was_live k j live kl few jl = by_was k j (was k j < live) (omega arith) (omega arith) (λ l e. omega arith) (λ l m e. omega arith) (λ l e. omega arith)
+was_live k j live kl few jl = grind (arith, nat_tests)
 
 pub was_other : (k j live : ℕ) → k < live → live ≤ 256 → j < live - 1 → was k j ≡ k → ⊥
-was_other k j live kl few jl q = by_was k j ⊥ (omega arith) (omega arith) (λ l e. omega arith) (λ l m e. omega arith) (λ l e. omega arith)
+was_other k j live kl few jl q = grind (arith, nat_tests)
 
 pub was_one : (k i j : ℕ) → k < 256 → i < 256 → j < 256 → was k i ≡ was k j → i ≡ j
-was_one k i j kl il jl e =
-    by_was k i (i ≡ j) kl il
-    (λ a p. by_was k j (i ≡ j) kl jl (λ b q. omega arith) (λ b m q. omega arith) (λ b q. omega arith))
-    (λ a n p. by_was k j (i ≡ j) kl jl (λ b q. omega arith) (λ b m q. omega arith) (λ b q. omega arith))
-    (λ a p. by_was k j (i ≡ j) kl jl (λ b q. omega arith) (λ b m q. omega arith) (λ b q. omega arith))
+was_one k i j kl il jl e = grind (arith, nat_tests)
 
 -- as many pass as before, but for the one that left
 count_moved : (q : ℕ → Bool) (k n : ℕ) → k ≤ n → n ≤ 255 → count_below (λ j. q (was k j)) n + cond (q k) 1 0 ≡ count_below q (suc n)
@@ -59,27 +52,20 @@ count_moved q k (suc n) l m =
     (cases_lt k (suc n))
 
 module _ (spots : List Spot) (k : ℕ) (n : length spots ≡ 256) (kl : k < 256) where
-  short : length (removed spots k) ≡ 255
+  short : length (remove spots k) ≡ 255
   short = let r = length-remove spots k (omega arith) in omega arith
-
-  whole : length (closed_up spots k) ≡ 256
-  whole = length-append (removed spots k) (drop (length (removed spots k)) spots) ∙ (ap (λ m. length (removed spots k) + m) (length-drop (length (removed spots k)) spots) ∙ omega (arith, short))
 
   pub moved_is : (j : ℕ) → j < 256 → spot_at (left_of spots k) j ≡ spot_at spots (was k j)
   moved_is j l =
       ⊎_elim
-      (λ e.
-      ap (λ i. spot_at (left_of spots k) i) e
-      ∙ (get_or-set_same (closed_up spots k) 255 (spot_at spots k) no_spot (omega (arith, whole))
-      ∙ ap (λ i. spot_at spots i) (sym (was_last k j (omega arith) (omega arith)))))
+      (λ e. get_or_at (remove spots k) (spot_at spots k) [] no_spot j (omega (arith, short)) ∙ ap (λ i. spot_at spots i) (sym (was_last k j (omega arith) (omega arith))))
       (λ ne.
-      let short-of : j < 255 = ⊎_elim (λ m. m) (λ m. absurd (ne (omega arith))) (cases_lt j 255) in
-      get_or-set_other (closed_up spots k) 255 j (spot_at spots k) no_spot ne
-      ∙ (get_or_append_left (removed spots k) (drop (length (removed spots k)) spots) no_spot j (omega (arith, short))
+      let m : j < 255 = omega arith in
+      get_or_append_left (remove spots k) (spot_at spots k ∷ []) no_spot j (omega (arith, short))
       ∙ ⊎_elim
-      (λ m. get_or-remove_below spots k no_spot j m (omega arith) ∙ ap (λ i. spot_at spots i) (sym (was_low k j m)))
-      (λ m. get_or-remove_above spots k no_spot j m (omega arith) ∙ ap (λ i. spot_at spots i) (sym (was_high k j m short-of)))
-      (cases_lt j k)))
+      (λ b. get_or-remove_below spots k no_spot j b (omega arith) ∙ ap (λ i. spot_at spots i) (sym (was_low k j b)))
+      (λ b. get_or-remove_above spots k no_spot j b (omega arith) ∙ ap (λ i. spot_at spots i) (sym (was_high k j b m)))
+      (cases_lt j k))
       (cases_eq j 255)
 
   -- what holds of each where it was, at its new place, holds of all
@@ -93,7 +79,7 @@ module _ (spots : List Spot) (k : ℕ) (n : length spots ≡ 256) (kl : k < 256)
         ⊎_elim
         (λ m. (j, (omega arith, moved_is j (omega arith) ∙ ap (λ i. spot_at spots i) (was_low k j m))))
         (λ m.
-        let p : k < j = ⊎_elim (λ q. q) (λ q. absurd (ne (omega arith))) (cases_lt k j) in
+        let p : k < j = omega arith in
         let e : was k (j - 1) ≡ j = was_high k (j - 1) (omega arith) (omega arith) ∙ omega arith in
         (j - 1, (omega arith, moved_is (j - 1) (omega arith) ∙ ap (λ i. spot_at spots i) e)))
         (cases_lt j k)

@@ -7,7 +7,7 @@ use Rattle.shelf_cache.specs.declared.shelf.Spot.{Spot}
 use Rattle.shelf_cache.specs.Rows.{no_shelf, shelf_at, on_page}
 use Rattle.shelf_cache.specs.Sound.{Sound, Side, Pages, stands_on}
 use Rattle.shelf_cache.specs.Places.{Numbered}
-use Rattle.shelf_cache.specs.First.{count_none}
+use Rattle.shelf_cache.proofs.Counts.{count_none}
 
 all_same : {X : Type 0} (n k : ℕ) (d : X) → get_or (replicate n d) k d ≡ d
 all_same n k d = ⊎_elim (λ l. get_or-replicate n k d d l) (λ l. get_or_past (replicate n d) k d (subst {A = ℕ} (λ m. m ≤ k) (sym (length-replicate n d)) l)) (cases_lt k n)

@@ -1,24 +1,17 @@
 -- An image put on its shelf leaves all sound: what holds at the one place written and at each other holds at all.
-use Rattle.std.proofs.Common.{◌≡◌, ℕ, ◌+◌, ◌/◌, ◌%◌, ◌<◌, ◌≤◌, cond, eqb, ◌⊎◌, List, length, set, sym, refl, ap, ◌∙◌, subst, inl, inr, ⊎_elim, arith}
+use Rattle.std.proofs.Common.{◌≡◌, ℕ, ◌+◌, ◌/◌, ◌%◌, ◌<◌, ◌≤◌, cond, eqb, List, length, set, sym, refl, ap, ◌∙◌, subst, ⊎_elim, arith}
 use Rattle.std.proofs.lemmas.List.{get_or-set_same, get_or-set_other}
-use Rattle.std.proofs.lemmas.Bool.{cases_eq, cases_lt, lt-ltb, le-ltb, eq-eqb, ne_eqb}
+use Rattle.std.proofs.lemmas.Bool.{cases_eq, cases_lt, eq-eqb, ne_eqb}
+use Rattle.std.proofs.lemmas.Bool.Decides.{nat_tests}
 use Rattle.shelf_cache.specs.declared.shelf.Shelf.{Shelf}
 use Rattle.shelf_cache.specs.declared.shelf.Spot.{Spot}
 use Rattle.shelf_cache.specs.declared.shelf.Place.{Place}
 use Rattle.shelf_cache.specs.Rows.{no_shelf, no_spot, shelf_at, spot_at, on_page, There, count_below}
 use Rattle.shelf_cache.specs.Sound.{Sound, Idle, stands_on}
 use Rattle.shelf_cache.specs.Places.{filled, put_on, reach, raised}
-use Rattle.shelf_cache.specs.First.{count_more, count_same}
+use Rattle.shelf_cache.proofs.Counts.{count_more, count_same}
 use Rattle.shelf_cache.proofs.Rows.{by_row, back_row, here_row}
 use Rattle.shelf_cache.proofs.Ready.{Ready}
-
--- the number of shelves that a page reaches: as before, or one more
-reach_is : (n k : ℕ) → k ≤ n → ((k < n) × (reach n k ≡ n)) ⊎ ((k ≡ n) × (reach n k ≡ n + 1))
-reach_is n k l =
-    ⊎_elim
-    (λ m. inl (m, ap (λ b. cond b n (k + 1)) (lt-ltb k n m)))
-    (λ m. let e : k ≡ n = omega arith in inr (e, ap (λ b. cond b n (k + 1)) (le-ltb k n m) ∙ omega arith))
-    (cases_lt k n)
 
 module _ (width height count : ℕ) (shelves : List Shelf) (standing : List ℕ) (spots : List Spot) (live : ℕ) (S : Sound width height count shelves standing spots live)
     (w h : ℕ) (w₀ : 0 < w) (h₀ : 0 < h) (p : Place) (R : Ready width height count shelves standing spots live w h p) (al : p.at < length shelves) (pl : p.at / 16 < length standing)
@@ -51,22 +44,19 @@ module _ (width height count : ℕ) (shelves : List Shelf) (standing : List ℕ)
       (λ e.
       let a = ap (on_page standing') e ∙ page_here in
       let b = ap (on_page standing) e in
-      ⊎_elim (λ r. omega arith) (λ r. omega arith) (reach_is stood (p.at % 16) R.next))
+      grind (arith, nat_tests, R.next))
       (λ ne. let a = page_other (s / 16) ne in omega arith)
       (cases_eq (s / 16) (p.at / 16))
 
   there_new : There standing' p.at
-  there_new = let a = page_here in ⊎_elim (λ r. omega arith) (λ r. omega arith) (reach_is stood (p.at % 16) R.next)
+  there_new = let a = page_here in grind (arith, nat_tests, R.next)
 
   there_old : (s : ℕ) → (s ≡ p.at → ⊥) → There standing' s → There standing s
   there_old s other t = ⊎_elim
       (λ e.
       let a = ap (on_page standing') e ∙ page_here in
       let b = ap (on_page standing) e in
-      ⊎_elim
-      (λ r. omega arith)
-      (λ r. ⊎_elim (λ l. omega arith) (λ l. absurd (other (omega arith))) (cases_lt (s % 16) (p.at % 16)))
-      (reach_is stood (p.at % 16) R.next))
+      ⊎_elim (λ l. grind (arith, nat_tests, R.next)) (λ l. ⊎_elim (λ m. grind (arith, nat_tests, R.next)) (λ m. absurd (other (omega arith))) (cases_lt (p.at % 16) (s % 16))) (cases_lt (s % 16) (p.at % 16)))
       (λ ne. let a = page_other (s / 16) ne in omega arith)
       (cases_eq (s / 16) (p.at / 16))
 
@@ -78,7 +68,7 @@ module _ (width height count : ℕ) (shelves : List Shelf) (standing : List ℕ)
 
   -- the image, and each that was live
   each_live : (P : ℕ → Spot → Type 0) → P live image → ((k : ℕ) → k < live → P k (spot_at spots k)) → (k : ℕ) → k < live + 1 → P k (spot_at spots' k)
-  each_live P new old = each_spot (λ k a. k < live + 1 → P k a) (λ _. new) (λ k ne l. old k (⊎_elim (λ m. m) (λ m. absurd (ne (omega arith))) (cases_lt k live)))
+  each_live P new old = each_spot (λ k a. k < live + 1 → P k a) (λ _. new) (λ k ne l. old k (omega arith))
 
   same_id : (k : ℕ) → (spot_at spots' k).id ≡ (spot_at spots k).id
   same_id = each_spot (λ k a. a.id ≡ (spot_at spots k).id) refl (λ k _. refl)
@@ -106,7 +96,7 @@ module _ (width height count : ℕ) (shelves : List Shelf) (standing : List ℕ)
     high = S.high;
     pages = S.pages;
     paged = by_row (λ q n. 0 < n → q < count) standing (p.at / 16) (reach stood (p.at % 16)) 0 pl (λ _. omega (arith, R.paged)) (λ q _. S.paged q);
-    sixteen = by_row (λ q n. n ≤ 16) standing (p.at / 16) (reach stood (p.at % 16)) 0 pl (⊎_elim (λ r. omega (arith, S.sixteen (p.at / 16))) (λ r. omega arith) (reach_is stood (p.at % 16) R.next)) (λ q _. S.sixteen q);
+    sixteen = by_row (λ q n. n ≤ 16) standing (p.at / 16) (reach stood (p.at % 16)) 0 pl (let m = S.sixteen (p.at / 16) in grind (arith, nat_tests)) (λ q _. S.sixteen q);
     inside = each_shelf (λ s z. There standing' s → z.top + z.height ≤ height) (λ _. R.inside) (λ s ne t. S.inside s (there_old s ne t));
     inner = each_shelf (λ s z. z.used ≤ width) R.room (λ s _. S.inner s);
     stacked = λ s t o.
@@ -157,7 +147,7 @@ module _ (width height count : ℕ) (shelves : List Shelf) (standing : List ℕ)
         ⊎_elim
         (λ l.
         let old = S.lowest s (idle_before s (λ t m f q. omega arith) idle) in
-        ⊎_elim (λ r. omega arith) (λ r. omega arith) (reach_is stood (p.at % 16) R.next))
+        grind (arith, nat_tests, R.next))
         (λ l. absurd (used_now (idle p.at l e)))
         (cases_lt p.at s))
         (λ ne.

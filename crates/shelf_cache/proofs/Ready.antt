@@ -1,14 +1,15 @@
 -- What holds of the place that an image goes to, whether its shelf is there or new.
-use Rattle.std.proofs.Common.{◌≡◌, ℕ, ◌+◌, ◌-◌, ◌*◌, ◌/◌, ◌%◌, ◌<◌, ◌≤◌, true, cond, leb, List, sym, ap, subst, ⊎_elim, arith}
-use Rattle.std.proofs.lemmas.Bool.{ltb-true, leb-true, ne_eqb, and_parts, cases_lt}
+use Rattle.std.proofs.Common.{◌≡◌, ℕ, ◌+◌, ◌-◌, ◌*◌, ◌/◌, ◌%◌, ◌<◌, ◌≤◌, true, cond, List, sym, ap, subst, ⊎_elim, arith}
+use Rattle.std.proofs.lemmas.Bool.{ne_eqb, cases_lt}
+use Rattle.std.proofs.lemmas.Bool.Decides.{nat_tests}
 use Rattle.shelf_cache.specs.declared.shelf.Shelf.{Shelf}
 use Rattle.shelf_cache.specs.declared.shelf.Spot.{Spot}
 use Rattle.shelf_cache.specs.declared.shelf.Place.{Place}
-use Rattle.shelf_cache.specs.Rows.{shelf_at, spot_at, on_page, stands, There, count_below}
+use Rattle.shelf_cache.specs.Rows.{shelf_at, spot_at, on_page, There, count_below}
 use Rattle.shelf_cache.specs.Sound.{Sound, stands_on}
-use Rattle.shelf_cache.specs.Places.{takes, takes_at, opens_at, end_above, old_place, new_place, Fit}
-use Rattle.shelf_cache.specs.First.{count_none}
-use Rattle.shelf_cache.specs.Rooms.{opens_is}
+use Rattle.shelf_cache.specs.Places.{takes_at, opens_at, end_above, old_place, new_place, Fit}
+use Rattle.shelf_cache.proofs.Counts.{count_none}
+use Rattle.shelf_cache.proofs.Rooms.{opens_is}
 
 -- a place at which an image can be put, so that all stays sound: its shelf stands or is the next of its page
 pub record Ready (width height count : ℕ) (shelves : List Shelf) (standing : List ℕ) (spots : List Spot) (live w h : ℕ) (p : Place) : Type 0 where
@@ -30,12 +31,11 @@ module _ (width height count : ℕ) (shelves : List Shelf) (standing : List ℕ)
 
   ready_old : (s : ℕ) → takes_at width w h shelves standing s ≡ true → Ready width height count shelves standing spots live w h (old_place shelves s)
   ready_old s t =
-      let a = and_parts (stands standing s) (takes width w h (shelf_at shelves s)) t in
-      let b = and_parts (leb h (shelf_at shelves s).height) (leb ((shelf_at shelves s).used + w) width) a.1 in
-      let there : There standing s = ltb-true _ _ a.0 in
+      let there : There standing s = grind (arith, nat_tests) in
+      let fits : (h ≤ (shelf_at shelves s).height) × ((shelf_at shelves s).used + w ≤ width) = grind (arith, nat_tests) in
       record {
-        tall = leb-true _ _ b.0;
-        room = leb-true _ _ b.1;
+        tall = fits.0;
+        room = fits.1;
         paged = omega (arith, S.paged (s / 16) (omega arith));
         next = omega arith;
         inside = S.inside s there;

@@ -3,7 +3,7 @@
 --     takes_at .. s           a shelf that takes the image stands at the place s
 --     opens_at .. s           a new shelf of height h can be opened at the place s
 --     admits live width height w h   a spot is free, and the size is from 1 by 1 to the page
---     ChosenIn g w h r        r is the first shelf that takes the image, else the first place that opens
+--     taking g w h s, opening g h s   the same two of the shelves g
 --     FitIn g w h p           p is where the image goes, by the rules above
 --     place_for g w h         that place, if there is one
 --     Finds g i r             r is the place of the image i, if there is one
@@ -12,10 +12,11 @@
 --     LeftBy g i d            the shelf that the image i left, and all others: g before, d after
 --     InLimits width height count    the sides of a page and the number of pages are within the limits
 --     Fresh width height count g     g are new shelves on pages of those sizes
+--     SideOf n r                     the answer r to a call for the side of a page
 --     Opened width height count r    the answer r to a call for such shelves
-use Rattle.std.specs.Prelude.{◌≡◌, ℕ, zero, suc, ◌+◌, ◌-◌, ◌*◌, ◌/◌, ◌%◌, ◌<◌, ◌≤◌, Bool, true, false, cond, ◌&&◌, ◌⊎◌, List, is_some, Some, None, Ok, Err, Option, Result, ◌==◌, ◌≢◌, nat_le, nat_lt, slice_set}
-use Rattle.std.specs.Option.{option_map}
-use Rattle.lists.specs.Lists.{closed_up}
+use Rattle.std.specs.Prelude.{◌≡◌, ℕ, zero, suc, ◌+◌, ◌-◌, ◌*◌, ◌/◌, ◌%◌, ◌<◌, ◌≤◌, Bool, true, false, cond, ◌&&◌, ◌⊎◌, List, [], ◌∷◌, ◌++◌, is_some, Some, None, Ok, Err, Option, Result, ◌==◌, ◌≢◌, nat_le, nat_lt, slice_set}
+use Rattle.std.specs.Option.{option_map, option_or}
+use Rattle.std.specs.List.{remove}
 use Rattle.image_cache.specs.Faults.{cache_number}
 use Rattle.image_cache.specs.Caches.{Cache, Empty}
 use Rattle.image_cache.specs.declared.image.Image.{Image}
@@ -23,10 +24,8 @@ use Rattle.image_cache.specs.declared.fault.CacheFault.{CacheFault}
 use Rattle.shelf_cache.specs.declared.shelf.Shelf.{Shelf}
 use Rattle.shelf_cache.specs.declared.shelf.Spot.{Spot}
 use Rattle.shelf_cache.specs.declared.shelf.Place.{Place}
-use Rattle.shelf_cache.specs.declared.shelf.Choice.{Choice}
-use Rattle.shelf_cache.specs.declared.shelf.Choice.TheVariants.{Old, New, Nowhere}
 use Rattle.shelf_cache.specs.declared.shelves.Shelves.{Shelves}
-use Rattle.shelf_cache.specs.Rows.{shelf_at, spot_at, on_page, stands, There, or_else, first_below, FirstBelow}
+use Rattle.shelf_cache.specs.Rows.{shelf_at, spot_at, on_page, stands, There, first_below}
 use Rattle.shelf_cache.specs.Sound.{Side, Pages, Bare, Idle}
 
 abbrev pub takes : ℕ → ℕ → ℕ → Shelf → Bool
@@ -48,18 +47,6 @@ opens_at count height h shelves standing s = nat_lt s (16 * count) && (s % 16 ==
 abbrev pub admits : ℕ → ℕ → ℕ → ℕ → ℕ → Bool
 admits live width height w h = nat_lt live 256 && ((nat_lt 0 w && nat_le w width) && (nat_lt 0 h && nat_le h height))
 
--- a shelf that takes the image before a place that opens
-abbrev pub choice_of : Option ℕ → Option ℕ → Choice
-choice_of (Some s) opening = Old s
-choice_of None (Some s) = New s
-choice_of None None = Nowhere
-
--- what one pass over n places finds: the first that takes, else the first that opens
-abbrev pub Chosen : (ℕ → Bool) → (ℕ → Bool) → ℕ → Choice → Type 0
-Chosen taking opening n (Old s) = FirstBelow taking n (Some s)
-Chosen taking opening n (New s) = FirstBelow taking n None × FirstBelow opening n (Some s)
-Chosen taking opening n Nowhere = FirstBelow taking n None × FirstBelow opening n None
-
 abbrev pub old_place : List Shelf → ℕ → Place
 old_place shelves s = record { at = s; shelf = shelf_at shelves s }
 
@@ -69,7 +56,7 @@ new_place shelves h s = record { at = s; shelf = record { top = end_above shelve
 abbrev pub place_of : ℕ → ℕ → ℕ → List Shelf → List ℕ → ℕ → ℕ → ℕ → Option Place
 place_of width height count shelves standing live w h =
     cond (admits live width height w h)
-    (or_else (option_map (old_place shelves) (first_below (takes_at width w h shelves standing) 64)) (option_map (new_place shelves h) (first_below (opens_at count height h shelves standing) 64)))
+    (option_or (option_map (old_place shelves) (first_below (takes_at width w h shelves standing) 64)) (option_map (new_place shelves h) (first_below (opens_at count height h shelves standing) 64)))
     None
 
 -- the first shelf that takes it
@@ -138,9 +125,12 @@ cache_of_shelves g = cache_of g.width g.height g.count g.shelves g.standing g.sp
 abbrev pub place_for : Shelves → ℕ → ℕ → Option Place
 place_for g w h = place_of g.width g.height g.count g.shelves g.standing g.live w h
 
--- what the pass over all places finds
-abbrev pub ChosenIn : Shelves → ℕ → ℕ → Choice → Type 0
-ChosenIn g w h r = Chosen (takes_at g.width w h g.shelves g.standing) (opens_at g.count g.height h g.shelves g.standing) 64 r
+-- which places have a shelf that takes it, and at which a shelf of height h can be opened
+abbrev pub taking : Shelves → ℕ → ℕ → ℕ → Bool
+taking g w h = takes_at g.width w h g.shelves g.standing
+
+abbrev pub opening : Shelves → ℕ → ℕ → Bool
+opening g h = opens_at g.count g.height h g.shelves g.standing
 
 abbrev pub FitIn : Shelves → ℕ → ℕ → Place → Type 0
 FitIn g w h p = Fit g.width g.height g.count g.shelves g.standing g.live w h p
@@ -207,6 +197,11 @@ pub record Outside (width height count : ℕ) (e : CacheFault) : Type 0 where
   pub outside : InLimits width height count → ⊥
   pub fault : cache_number e ≡ 11
 
+-- the side itself, refused exactly when it is out of its limits
+abbrev pub SideOf : ℕ → Result ℕ CacheFault → Type 0
+SideOf n (Ok side) = Side n × (side ≡ n)
+SideOf n (Err e) = (Side n → ⊥) × (cache_number e ≡ 11)
+
 -- refused exactly when a size is out of its limits
 abbrev pub Opened : ℕ → ℕ → ℕ → Result Shelves CacheFault → Type 0
 Opened width height count (Ok g) = InLimits width height count × Fresh width height count g
@@ -214,7 +209,7 @@ Opened width height count (Err e) = Outside width height count e
 
 -- the spots after the image at k left: the later ones are one place further down, and its own is the last, so that its id is free
 abbrev pub left_of : List Spot → ℕ → List Spot
-left_of spots k = slice_set (closed_up spots k) 255 (spot_at spots k)
+left_of spots k = remove spots k ++ spot_at spots k ∷ []
 
 -- 256 spots with the ids 0 to 255
 abbrev pub Numbered : List Spot → Type 0

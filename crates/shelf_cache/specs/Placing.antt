@@ -1,46 +1,26 @@
 -- Where an image goes, from the first shelf that takes it and the first place that opens.
-use Rattle.std.specs.Prelude.{◌≡◌, ℕ, ◌<◌, ◌≤◌, true, false, cond, ◌&&◌, List, Some, None, Option, nat_le, nat_lt, refl}
-use Rattle.std.proofs.Common.{ap, ◌∙◌, inl, inr}
-use Rattle.std.specs.Option.{option_map}
-use Rattle.std.proofs.lemmas.Bool.{lt-ltb, le-leb, ltb-true, leb-true, and_from, and_parts}
+use Rattle.std.specs.Prelude.{◌≡◌, ℕ, ◌<◌, ◌≤◌, true, false, List, None, Option}
+use Rattle.std.specs.Option.{option_map, option_or}
+use Rattle.std.proofs.Common.{arith}
+use Rattle.std.proofs.lemmas.Bool.Decides.{nat_tests}
 use Rattle.shelf_cache.specs.declared.shelf.Shelf.{Shelf}
 use Rattle.shelf_cache.specs.declared.shelf.Place.{Place}
-use Rattle.shelf_cache.specs.Rows.{or_else, first_below, FirstBelow}
-use Rattle.shelf_cache.specs.Places.{takes_at, opens_at, admits, old_place, new_place, place_of, Fit}
-use Rattle.shelf_cache.specs.First.{first_is, first_spec}
-use Rattle.shelf_cache.specs.Rooms.{first_page}
+use Rattle.shelf_cache.specs.Rows.{FirstBelow}
+use Rattle.shelf_cache.specs.Places.{takes_at, opens_at, admits, old_place, new_place, place_of}
+use Rattle.shelf_cache.specs.First.{first_is}
 
 pub admitted : (live width height w h : ℕ) → live < 256 → 0 < w → w ≤ width → 0 < h → h ≤ height → admits live width height w h ≡ true
-admitted live width height w h l a b c d = and_from _ _ (lt-ltb live 256 l) (and_from _ _ (and_from _ _ (lt-ltb 0 w a) (le-leb w width b)) (and_from _ _ (lt-ltb 0 h c) (le-leb h height d)))
-
-pub admits_is : (live width height w h : ℕ) → admits live width height w h ≡ true → (live < 256) × (0 < w) × (w ≤ width) × (0 < h) × (h ≤ height)
-admits_is live width height w h z =
-    let l = and_parts (nat_lt live 256) ((nat_lt 0 w && nat_le w width) && (nat_lt 0 h && nat_le h height)) z in
-    let p = and_parts (nat_lt 0 w && nat_le w width) (nat_lt 0 h && nat_le h height) l.1 in
-    let a = and_parts (nat_lt 0 w) (nat_le w width) p.0 in
-    let b = and_parts (nat_lt 0 h) (nat_le h height) p.1 in
-    (ltb-true _ _ l.0, ltb-true _ _ a.0, leb-true _ _ a.1, ltb-true _ _ b.0, leb-true _ _ b.1)
+admitted live width height w h l a b c d = grind (arith, nat_tests)
 
 module _ (width height count : ℕ) (shelves : List Shelf) (standing : List ℕ) (live w h : ℕ) where
   -- from what the two searches find
-  abbrev either : Option ℕ → Option ℕ → Option Place
-  either a b = or_else (option_map (old_place shelves) a) (option_map (new_place shelves h) b)
+  abbrev pub either : Option ℕ → Option ℕ → Option Place
+  either a b = option_or (option_map (old_place shelves) a) (option_map (new_place shelves h) b)
 
   pub place_both : (a b : Option ℕ) → admits live width height w h ≡ true → FirstBelow (takes_at width w h shelves standing) 64 a → FirstBelow (opens_at count height h shelves standing) 64 b
       → place_of width height count shelves standing live w h ≡ either a b
   place_both a b z f g =
-      ap (λ t. cond t (either (first_below (takes_at width w h shelves standing) 64) (first_below (opens_at count height h shelves standing) 64)) None) z
-      ∙ (ap (λ o. either o (first_below (opens_at count height h shelves standing) 64)) (first_is (takes_at width w h shelves standing) 64 a f)
-      ∙ ap (λ o. either a o) (first_is (opens_at count height h shelves standing) 64 b g))
-
-  pub place_old : (s : ℕ) → admits live width height w h ≡ true → FirstBelow (takes_at width w h shelves standing) 64 (Some s) → place_of width height count shelves standing live w h ≡ Some (old_place shelves s)
-  place_old s z f = place_both (Some s) (first_below (opens_at count height h shelves standing) 64) z f (first_spec (opens_at count height h shelves standing) 64)
-
-  pub fit_old : (s : ℕ) → admits live width height w h ≡ true → FirstBelow (takes_at width w h shelves standing) 64 (Some s) → Fit width height count shelves standing live w h (old_place shelves s)
-  fit_old s z f = record { admitted = z; there = f.0; chosen = inl (record { is = refl; takes_it = f.1; none_before = f.2 }) }
-
-  pub fit_new : (s : ℕ) → admits live width height w h ≡ true → FirstBelow (takes_at width w h shelves standing) 64 None → FirstBelow (opens_at count height h shelves standing) 64 (Some s) → Fit width height count shelves standing live w h (new_place shelves h s)
-  fit_new s z f g = record { admitted = z; there = g.0; chosen = inr (record { no_shelf_takes = f; is = refl; opens = g.1; none_before = g.2; page = first_page count height h shelves standing s g.1 g.2 }) }
+      rw (z, first_is (takes_at width w h shelves standing) 64 a f, first_is (opens_at count height h shelves standing) 64 b g)
 
   pub place_none : admits live width height w h ≡ false → place_of width height count shelves standing live w h ≡ None
-  place_none z = ap (λ t. cond t (either (first_below (takes_at width w h shelves standing) 64) (first_below (opens_at count height h shelves standing) 64)) None) z
+  place_none z = rw z

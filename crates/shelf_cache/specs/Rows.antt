@@ -7,6 +7,7 @@
 --     FirstBelow p n r   the same by what is true of it
 --     count_below p n    how many numbers below n pass p
 use Rattle.std.specs.Prelude.{◌≡◌, ℕ, zero, suc, ◌+◌, ◌/◌, ◌%◌, ◌<◌, Bool, true, false, cond, List, Some, None, Option, nat_lt, slice_index, slice_index_or}
+use Rattle.std.specs.Option.{option_or}
 use Rattle.shelf_cache.specs.declared.shelf.Shelf.{Shelf}
 use Rattle.shelf_cache.specs.declared.shelf.Spot.{Spot}
 
@@ -31,13 +32,9 @@ stands standing s = nat_lt (s % 16) (on_page standing (s / 16))
 abbrev pub There : List ℕ → ℕ → Type 0
 There standing s = s % 16 < on_page standing (s / 16)
 
-abbrev pub or_else : {X : Type 0} → Option X → Option X → Option X
-or_else None b = b
-or_else (Some x) b = Some x
-
 unfoldable pub first_below : (ℕ → Bool) → ℕ → Option ℕ
 first_below p zero = None
-first_below p (suc n) = or_else (first_below p n) (cond (p n) (Some n) None)
+first_below p (suc n) = option_or (first_below p n) (cond (p n) (Some n) None)
 
 abbrev pub FirstBelow : (ℕ → Bool) → ℕ → Option ℕ → Type 0
 FirstBelow p n None = (k : ℕ) → k < n → p k ≡ false

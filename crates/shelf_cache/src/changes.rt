@@ -5,39 +5,39 @@ ghost use Rattle.shelf_cache.specs.Rows.{spot_at};
 ghost use Rattle.shelf_cache.specs.Places.{cache_of_shelves, place_for, FitIn, PutAt, LeftBy};
 
 use crate::shelf::Place;
-use crate::shelves::Shelves;
-use crate::steps::{spot_on, with_image, with_shelf, without_image};
+use crate::shelves::{PAGE_PLACES, Shelves};
 use crate::tables::{left_standing, retire};
+use image_cache::image::Size;
 
 impl Shelves {
     // Puts an image where it goes, under the first id that is free.
-    pub(crate) fn put(&mut self, place: Place, w: u16, h: u16) -> u32
-        requires chosen { place_for self.old w h ≡ Some place }
-        requires fit { FitIn self.old w h place }
-        ensures adds { Added (cache_of_shelves self.old) w h result (cache_of_shelves self.new) }
-        ensures put { PutAt self.old w h result self.new }
+    pub(crate) fn put(&mut self, place: Place, size: Size) -> u32
+        requires chosen { place_for self.old size.w size.h ≡ Some place }
+        requires fit { FitIn self.old size.w size.h place }
+        ensures adds { Added (cache_of_shelves self.old) size.w size.h result (cache_of_shelves self.new) }
+        ensures put { PutAt self.old size.w size.h result self.new }
     {
         let id = self.spots[self.live].id;
-        let page = place.at / 16;
-        self.standing[page] = with_shelf(self.standing[page], place.at % 16);
-        self.shelves[place.at] = with_image(place.shelf, w);
-        self.spots[self.live] = spot_on(id, place, w, h);
+        let page = place.at / PAGE_PLACES;
+        self.standing[page] = self.standing[page].max(place.at % PAGE_PLACES + 1);
+        self.shelves[place.at] = place.shelf.with_image(size.w);
+        self.spots[self.live] = place.spot(id, size);
         self.live += 1;
         id
     }
 
-    // Removes the image at k, which has that id.
-    pub(crate) fn remove(&mut self, id: u32, k: usize)
-        requires live { k < self.old.live }
-        requires named { (spot_at self.old.spots k).id ≡ id }
-        ensures removes { Removed (cache_of_shelves self.old) id (cache_of_shelves self.new) }
-        ensures leaves { LeftBy self.old id self.new }
+    // Removes the image at k.
+    pub(crate) fn remove(&mut self, k: usize)
+        requires { k < self.old.live }
+        ensures removes { Removed (cache_of_shelves self.old) (spot_at self.old.spots k).id (cache_of_shelves self.new) }
+        ensures leaves { LeftBy self.old (spot_at self.old.spots k).id self.new }
     {
         let at = self.spots[k].shelf as usize;
-        let shelf = without_image(self.shelves[at]);
+        let page = at / PAGE_PLACES;
+        let shelf = self.shelves[at].without_image();
         retire(&mut self.spots, k);
         self.live -= 1;
         self.shelves[at] = shelf;
-        self.standing[at / 16] = left_standing(&self.shelves, at / 16, self.standing[at / 16]);
+        self.standing[page] = left_standing(&self.shelves, page, self.standing[page]);
     }
 }

@@ -3,19 +3,17 @@ ghost use Rattle.std.specs.Prelude.{IfOk, OnOk};
 ghost use Rattle.shapes.specs.Answers.{KeepsRefused};
 ghost use Rattle.image_cache.specs.Caches.{Allocated, Freed};
 ghost use Rattle.shelf_cache.specs.Places.{cache_of_shelves, PutAt, LeftBy};
-ghost use Rattle.shelf_cache.specs.Laws;
-ghost use Rattle.shelf_cache.specs.Whole.{sound_of};
+ghost use Rattle.shelf_cache.specs.Laws.{lawful};
 
 use crate::shelves::Shelves;
-use crate::steps::to_image;
 use image_cache::cache::ImageCache;
 use image_cache::fault::CacheFault;
-use image_cache::image::Image;
+use image_cache::image::{Image, Size};
 
 impl ImageCache for Shelves {
     ghost meaning = { cache_of_shelves };
 
-    ghost lawful = { λ c. Laws.lawful c.width c.height c.count c.shelves c.standing c.spots c.live (sound_of c) };
+    ghost lawful = { lawful };
 
     fn page_width(&self) -> u16 {
         self.width
@@ -37,27 +35,22 @@ impl ImageCache for Shelves {
         self.page_height()
     }
 
-    fn fits(&self, w: u16, h: u16) -> bool {
-        self.place(w, h).is_some()
+    fn fits(&self, size: Size) -> bool {
+        self.place(size).is_some()
     }
 
     // Besides what any cache does: it goes to the first shelf that takes it, else to a new one on the first page with room.
-    fn allocate(&mut self, w: u16, h: u16) -> Result<u32, CacheFault>
-        ensures allocates { Allocated (cache_of_shelves self.old) w h result (cache_of_shelves self.new) }
+    fn allocate(&mut self, size: Size) -> Result<u32, CacheFault>
+        ensures allocates { Allocated (cache_of_shelves self.old) size.w size.h result (cache_of_shelves self.new) }
         ensures keeps { KeepsRefused result self.old self.new }
-        ensures put { IfOk result (λ i. PutAt self.old w h i self.new) }
+        ensures put { IfOk result (λ i. PutAt self.old size.w size.h i self.new) }
     {
-        let Some(place) = self.place(w, h) else {
-            return Err(CacheFault::NoFit);
-        };
-        Ok(self.put(place, w, h))
+        let place = self.place(size).ok_or(CacheFault::NoFit)?;
+        Ok(self.put(place, size))
     }
 
     fn get(&self, id: u32) -> Option<Image> {
-        let Some(at) = self.find(id) else {
-            return None;
-        };
-        Some(to_image(self.spots[at]))
+        self.find(id).map(|at| Image::from(self.spots[at]))
     }
 
     // Besides what any cache does: a shelf that becomes empty starts from its left again, and empty lowest shelves vanish.
@@ -66,10 +59,8 @@ impl ImageCache for Shelves {
         ensures keeps { KeepsRefused result self.old self.new }
         ensures leaves { OnOk result (LeftBy self.old id self.new) }
     {
-        let Some(k) = self.find(id) else {
-            return Err(CacheFault::NotLive);
-        };
-        self.remove(id, k);
+        let at = self.find(id).ok_or(CacheFault::NotLive)?;
+        self.remove(at);
         Ok(())
     }
 }

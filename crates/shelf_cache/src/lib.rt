@@ -8,5 +8,4 @@ mod places;
 mod search;
 pub mod shelf;
 pub mod shelves;
-mod steps;
 mod tables;

@@ -1,38 +1,36 @@
 // New shelves.
-ghost use Rattle.shelf_cache.specs.Places.{InLimits, Fresh, Opened};
+ghost use Rattle.shelf_cache.specs.Places.{InLimits, Fresh, Opened, SideOf};
 
 use crate::shelf::Shelf;
-use crate::shelves::Shelves;
+use crate::shelves::{MOST_PAGES, PLACES, Shelves};
 use crate::tables::free_spots;
 use image_cache::fault::CacheFault;
 
-const SMALLEST_SIDE: u32 = 2;
+const SMALLEST_SIDE: u16 = 2;
 
-const LARGEST_SIDE: u32 = 65535;
-
-const MOST_PAGES: u32 = 4;
+// The side of a page; refused with 11 where it is not 2 to 65535.
+fn side(pixels: u32) -> Result<u16, CacheFault>
+    ensures { SideOf pixels result }
+{
+    u16::try_from(pixels)
+        .ok()
+        .filter(|side| *side >= SMALLEST_SIDE)
+        .ok_or(CacheFault::Sizes)
+}
 
 impl Shelves {
     // Pages within the limits, with no shelf on them and no image.
-    pub(crate) fn empty(width: u16, height: u16, count: u32) -> Shelves
+    fn empty(width: u16, height: u16, count: u32) -> Shelves
         requires { InLimits width height count }
         ensures { Fresh width height count result }
     {
-        let shelves = [Shelf {
-            top: 0,
-            height: 0,
-            used: 0,
-            images: 0,
-        }; 64];
-        let standing = [0; 4];
-        let spots = free_spots();
         Shelves {
             width,
             height,
             count,
-            shelves,
-            standing,
-            spots,
+            shelves: [Shelf::EMPTY; PLACES],
+            standing: [0; MOST_PAGES],
+            spots: free_spots(),
             live: 0,
         }
     }
@@ -41,16 +39,11 @@ impl Shelves {
     pub fn new(width: u32, height: u32, count: u32) -> Result<Shelves, CacheFault>
         ensures { Opened width height count result }
     {
-        if width < SMALLEST_SIDE
-            || width > LARGEST_SIDE
-            || height < SMALLEST_SIDE
-            || height > LARGEST_SIDE
-        {
+        let width = side(width)?;
+        let height = side(height)?;
+        if !(1..=MOST_PAGES as u32).contains(&count) {
             return Err(CacheFault::Sizes);
         }
-        if count < 1 || count > MOST_PAGES {
-            return Err(CacheFault::Sizes);
-        }
-        Ok(Shelves::empty(width as u16, height as u16, count))
+        Ok(Shelves::empty(width, height, count))
     }
 }

@@ -3,17 +3,27 @@ ghost use Rattle.shelf_cache.specs.Sound.{Side, Pages, Paged, Sixteen, Inside, I
 
 use crate::shelf::{Shelf, Spot};
 
+// Places for shelves on a page.
+pub(crate) const PAGE_PLACES: usize = 16;
+
+// Places for shelves on all pages that there may be.
+pub(crate) const PLACES: usize = 64;
+
+pub(crate) const MOST_PAGES: usize = 4;
+
+pub(crate) const MOST_IMAGES: usize = 256;
+
 #[derive(Drop)]
 pub struct Shelves {
     pub(crate) width: u16,
     pub(crate) height: u16,
     pub(crate) count: u32,
-    // sixteen places a page, from the top
-    pub(crate) shelves: [Shelf; 64],
+    // the places of each page, page by page and from the top
+    pub(crate) shelves: [Shelf; PLACES],
     // how many of a page's places have a shelf
-    pub(crate) standing: [usize; 4],
+    pub(crate) standing: [usize; MOST_PAGES],
     // the images in the order of making, then the ids that are free
-    pub(crate) spots: [Spot; 256],
+    pub(crate) spots: [Spot; MOST_IMAGES],
     // how many of the spots are images
     pub(crate) live: usize,
     ghost wide: { Side width },

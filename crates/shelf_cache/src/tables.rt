@@ -1,48 +1,43 @@
 // What changes more than one shelf or one spot of a table.
-ghost use Rattle.std.specs.Prelude.{◌≡◌, ◌<◌, ◌≤◌};
+ghost use Rattle.std.specs.Prelude.{◌≡◌, ◌<◌, ◌≤◌, length};
 ghost use Rattle.shelf_cache.specs.Sound.{Lowered};
 ghost use Rattle.shelf_cache.specs.Places.{left_of, Numbered};
 
 use crate::shelf::{Shelf, Spot};
-use lists::close::close_up;
+use crate::shelves::{MOST_IMAGES, PAGE_PLACES, PLACES};
+use std::array;
 
 // No image, and the ids 0 to 255 free.
-pub(crate) fn free_spots() -> [Spot; 256]
+pub(crate) fn free_spots() -> [Spot; MOST_IMAGES]
     ensures { Numbered result }
 {
-    let mut spots = [Spot {
-        id: 0,
+    array::from_fn(|at| Spot {
+        id: at as u32,
         shelf: 0,
         x: 0,
         y: 0,
         w: 0,
         h: 0,
-    }; 256];
-    for at in 0..256 {
-        spots[at].id = at as u32;
-    }
-    spots
+    })
 }
 
 // The image at k leaves: the later ones move down by one, and its spot becomes the last, so that its id is free.
-pub(crate) fn retire(spots: &mut [Spot; 256], k: usize)
-    requires { k < 256 }
+pub(crate) fn retire(spots: &mut [Spot], k: usize)
+    requires { k < length spots.old }
     ensures { spots.new ≡ left_of spots.old k }
 {
-    let gone = spots[k];
-    close_up(spots, k);
-    spots[255] = gone;
+    spots[k..].rotate_left(1);
 }
 
 // How many of the n shelves of the page are left, once the empty lowest ones are gone.
-pub(crate) fn left_standing(shelves: &[Shelf; 64], page: usize, n: usize) -> usize
-    requires { (page < 4) × (n ≤ 16) }
+pub(crate) fn left_standing(shelves: &[Shelf; PLACES], page: usize, n: usize) -> usize
+    requires page { page < 4 }
+    requires shelves { n ≤ 16 }
     ensures { Lowered shelves.now page n result }
 {
-    for k in (0..n).rev() {
-        if shelves[16 * page + k].used != 0 {
-            return k + 1;
-        }
-    }
-    0
+    let top = PAGE_PLACES * page;
+    shelves[top..top + n]
+        .iter()
+        .rposition(|shelf| shelf.used != 0)
+        .map_or(0, |lowest| lowest + 1)
 }

@@ -1,40 +1,21 @@
 -- With the image gone and the empty lowest shelves with it, all is sound, and one image less is live.
-use Rattle.std.proofs.Common.{rules}
+use Rattle.std.proofs.Common.{refl, rules}
+use Rattle.shelf_cache.specs.Rows.{spot_at}
 use Rattle.shelf_cache.proofs.Leaving.{counted_here, left}
 use Rattle.shelf_cache.proofs.shelves.Shelves.remove.Goals as goal
 
 pub without_image-shelf-requires : goal.without_image-shelf-requires
-without_image-shelf-requires c = counted_here c.args.self.now c.args.id c.args.k (search rules) (search rules) c.requires.live c.requires.named
+without_image-shelf-requires c = counted_here c.args.self.now (spot_at c.args.self.now.spots c.args.k).id c.args.k (search rules) (search rules) c.requires refl
 
 pub invariant_of-self : goal.invariant_of-self
 invariant_of-self c =
-    let l = left c.args.self.now c.args.id c.args.k (search rules) (search rules) c.requires.live c.requires.named (search rules)
+    let l = left c.args.self.now (spot_at c.args.self.now.spots c.args.k).id c.args.k (search rules) (search rules) c.requires refl (search rules)
     c.retire.new.spots c.retire.ensures c.without_image-shelf.result c.without_image-shelf.ensures c.left_standing.result c.left_standing.ensures in
     let S = l.sound in
-    record {
-      wide = S.wide;
-      high = S.high;
-      pages = S.pages;
-      paged = S.paged;
-      sixteen = S.sixteen;
-      inside = S.inside;
-      inner = S.inner;
-      stacked = S.stacked;
-      few = S.few;
-      sized = S.sized;
-      placed = S.placed;
-      stood = S.stood;
-      upright = S.upright;
-      beside = S.beside;
-      reset = S.reset;
-      counted = S.counted;
-      lowest = S.lowest;
-      small = S.small;
-      single = S.single;
-    }
+    search rules
 
 pub returns : goal.returns
 returns c =
-    let l = left c.args.self.now c.args.id c.args.k (search rules) (search rules) c.requires.live c.requires.named (search rules)
+    let l = left c.args.self.now (spot_at c.args.self.now.spots c.args.k).id c.args.k (search rules) (search rules) c.requires refl (search rules)
     c.retire.new.spots c.retire.ensures c.without_image-shelf.result c.without_image-shelf.ensures c.left_standing.result c.left_standing.ensures in
     record { removes = l.removes; leaves = l.settles }

@@ -1,7 +1,8 @@
 -- The first place that opens is below the last shelf of the first page with room.
-use Rattle.std.specs.Prelude.{◌≡◌, ℕ, zero, suc, ◌+◌, ◌-◌, ◌*◌, ◌/◌, ◌%◌, ◌<◌, ◌≤◌, true, false, cond, List, ◌==◌, nat_lt, refl}
+use Rattle.std.specs.Prelude.{◌≡◌, ℕ, zero, suc, ◌+◌, ◌-◌, ◌*◌, ◌/◌, ◌%◌, ◌<◌, ◌≤◌, true, false, cond, List, refl}
 use Rattle.std.proofs.Common.{sym, ap, subst, ◌∙◌, arith}
-use Rattle.std.proofs.lemmas.Bool.{ltb-true, leb-true, eqb-true, lt-ltb, le-leb, eq-eqb, ne_eqb, and_parts, and_from, both_ways}
+use Rattle.std.proofs.lemmas.Bool.{eq-eqb, ne_eqb, both_ways}
+use Rattle.std.proofs.lemmas.Bool.Decides.{nat_tests}
 use Rattle.shelf_cache.specs.declared.shelf.Shelf.{Shelf}
 use Rattle.shelf_cache.specs.Rows.{shelf_at, on_page}
 use Rattle.shelf_cache.specs.Places.{opens_at, end_above, end_of_last, RoomOn, FirstPage}
@@ -23,9 +24,8 @@ pub record Opens (count height h : ℕ) (shelves : List Shelf) (standing : List 
 module _ (count height h : ℕ) (shelves : List Shelf) (standing : List ℕ) where
   pub opens_is : (s : ℕ) → opens_at count height h shelves standing s ≡ true → Opens count height h shelves standing s
   opens_is s t =
-      let a = and_parts (nat_lt s (16 * count)) _ t in
-      let b = and_parts (s % 16 == on_page standing (s / 16)) _ a.1 in
-      record { paged = ltb-true _ _ a.0; next = eqb-true _ _ b.0; left = leb-true _ _ b.1 }
+      let h : (s < 16 * count) × (s % 16 ≡ on_page standing (s / 16)) × (end_above shelves s + h ≤ height) = grind (arith, nat_tests) in
+      record { paged = h.0; next = h.1; left = h.2 }
 
   room_of : (s : ℕ) → Opens count height h shelves standing s → RoomOn count height h shelves standing (s / 16) (s % 16)
   room_of s o =
@@ -39,9 +39,10 @@ module _ (count height h : ℕ) (shelves : List Shelf) (standing : List ℕ) whe
       let m : (16 * q + n) % 16 ≡ n = omega arith in
       let e : end_above shelves (16 * q + n) ≡ end_of_last shelves q n = end_same shelves (16 * q + n) n m ∙ ap (λ p. end_of_last shelves p n) d in
       let P : ℕ → Type 0 = λ k. k + h ≤ height in
-      and_from _ _ (lt-ltb _ _ (omega (arith, r.there)))
-      (and_from _ _ (eq-eqb _ _ (m ∙ (sym r.has ∙ ap (on_page standing) (sym d))))
-      (le-leb _ _ (subst P (sym e) r.left)))
+      let has : on_page standing ((16 * q + n) / 16) ≡ n = ap (on_page standing) d ∙ r.has in
+      let left : end_above shelves (16 * q + n) + h ≤ height = subst P (sym e) r.left in
+      let there = r.there in
+      grind (arith, nat_tests)
 
   pub first_page : (s : ℕ) → opens_at count height h shelves standing s ≡ true → ((t : ℕ) → t < s → opens_at count height h shelves standing t ≡ false) → FirstPage count height h shelves standing s
   first_page s t none = record {

@@ -9,6 +9,7 @@ ghost use Rattle.glyph_atlas.specs.Places.{aged, unaged};
 use crate::entry::GlyphCacheEntry;
 use crate::limit::AgeLimit;
 use crate::pending::PendingClearRect;
+use crate::slots::PADDING;
 use crate::table::EntryTable;
 use image_cache::cache::ImageCache;
 use interface::region::AtlasSlot;
@@ -23,8 +24,8 @@ fn pad(slot: AtlasSlot) -> PendingClearRect
         page: slot.page,
         x: slot.x.saturating_sub(1),
         y: slot.y.saturating_sub(1),
-        width: slot.width + 2,
-        height: slot.height + 2,
+        width: slot.width + PADDING,
+        height: slot.height + PADDING,
     }
 }
 

@@ -11,7 +11,7 @@ ghost use Rattle.glyph_atlas.specs.Places.{barred, grown};
 use crate::atlas::GlyphAtlas;
 use crate::entry::GlyphCacheEntry;
 use crate::fault::AtlasFault;
-use crate::slots::place;
+use crate::slots::{PADDING, place};
 use crate::table::MOST_ENTRIES;
 use glyph_key::key::GlyphCacheKey;
 use image_cache::cache::ImageCache;
@@ -20,7 +20,7 @@ use raster::fault::RasterFault;
 use raster::glyph::RasterMetrics;
 
 // The widest and highest picture whose padding fits 16 bits.
-const LARGEST: u16 = 65533;
+const LARGEST: u16 = u16::MAX - PADDING;
 
 fn measured(metrics: RasterMetrics) -> Result<(), RasterFault>
     ensures { result ≡ (if too_large metrics then Err Metrics else Ok tt) }

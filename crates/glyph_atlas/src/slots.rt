@@ -11,7 +11,7 @@ use interface::region::AtlasSlot;
 use raster::glyph::RasterMetrics;
 
 // One pixel more on every side.
-const PADDING: u16 = 2;
+pub(crate) const PADDING: u16 = 2;
 
 // The place inside the padding.
 fn slot_in(image: Image, metrics: RasterMetrics) -> AtlasSlot

@@ -27,8 +27,7 @@ returns c =
     let k = c.args.key.now in
     let es = vec_items c.args.self.now.entries in
     let i = c.in_ok-i.i in
-    let h : HeldAt k es i = c.in_ok-i.ensures in
-    (
+    let h : HeldAt k es i = c.in_ok-i.ensures in (
       h.entry,
       (h.found, ap (λ (x : GlyphCacheEntry). x.slot) (reads k es i h _ c.index.ensures), renewed_there k es i h _ c.args.tick c.index_mut.ensures.value),
     )

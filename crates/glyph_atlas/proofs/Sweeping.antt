@@ -22,13 +22,10 @@ abbrev pub ids_of : List GlyphCacheEntry → List ℕ
 ids_of es = map image_id (map slot_of es)
 
 clears_push : (es : List GlyphCacheEntry) (e : GlyphCacheEntry) → clears_of (es ++ e ∷ []) ≡ clears_of es ++ padded e.slot ∷ []
-clears_push es e = ap (map padded) (map-append slot_of es (e ∷ [])) ∙ map-append padded (map slot_of es) (e.slot ∷ [])
+clears_push es e = simp map-append
 
 ids_push : (es : List GlyphCacheEntry) (e : GlyphCacheEntry) → ids_of (es ++ e ∷ []) ≡ ids_of es ++ e.slot.id ∷ []
-ids_push es e = ap (map image_id) (map-append slot_of es (e ∷ [])) ∙ map-append image_id (map slot_of es) (e.slot ∷ [])
-
-length_clears : (es : List GlyphCacheEntry) → length (clears_of es) ≡ length es
-length_clears es = length-map (map slot_of es) padded ∙ length-map es slot_of
+ids_push es e = simp map-append
 
 freed_one_more : (c : Cache) (ids : List ℕ) (m : Cache) (id : ℕ) (r : Result (Unit {0}) CacheFault) (d : Cache) → FreedAll c ids m → Freed m id r d → FreedAll c (ids ++ id ∷ []) d
 freed_one_more c [] m id r d h f = let P : Cache → Type 0 = λ x. Freed x id r d in (d, (r, (subst P h f, refl)))
@@ -55,7 +52,7 @@ module _ {m : AgeLimit} {xs : List GlyphCacheEntry} {k₀ : List PendingClearRec
       let e : GlyphCacheEntry = get_or xs i d in
       let es : List GlyphCacheEntry = filter (aged m) (take i xs) in
       let s = one_more true p in
-      let kl : length k ≡ length k₀ + length es = ap length g.cleared ∙ (length-append k₀ (clears_of es) ∙ ap (λ n. length k₀ + n) (length_clears es)) in
+      let kl : length k ≡ length k₀ + length es = ap length g.cleared ∙ simp (length-append, length-map) in
       let b = lt-ltb (length k) 256 (omega (arith, g.few)) in
       let n = length_push es e in
       let P : List GlyphCacheEntry → Type 0 = λ ys. FreedAll c₀ (ids_of ys) d' in

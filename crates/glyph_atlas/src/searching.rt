@@ -25,8 +25,8 @@ impl EntryTable {
         ensures { Renewed key.now tick self.old.entries.items result self.new.entries.items }
     {
         let i = self.place_of(key)?;
-        let slot = self.entries[i].slot;
-        self.entries[i].tick = tick;
-        Some(slot)
+        let entry = &mut self.entries[i];
+        entry.tick = tick;
+        Some(entry.slot)
     }
 }

@@ -14,7 +14,7 @@ invariant_of-self c =
     let k = c.args.key.now in
     let es = vec_items t.entries in
     let h : HeldAt k es c.in_ok-i.i = c.in_ok-i.ensures in
-    let w = renewed_there k es c.in_ok-i.i h _ c.args.tick c.index_mut.ensures.value in
+    let w = renewed_there k es c.in_ok-i.i h _ c.args.tick c.index_mut-entry.ensures.value in
     record {
       small = omega arith;
       room = omega arith;
@@ -29,5 +29,5 @@ returns c =
     let i = c.in_ok-i.i in
     let h : HeldAt k es i = c.in_ok-i.ensures in (
       h.entry,
-      (h.found, ap (λ (x : GlyphCacheEntry). x.slot) (reads k es i h _ c.index.ensures), renewed_there k es i h _ c.args.tick c.index_mut.ensures.value),
+      (h.found, ap (λ (x : GlyphCacheEntry). x.slot) (reads k es i h _ c.index_mut-entry.ensures.value), renewed_there k es i h _ c.args.tick c.index_mut-entry.ensures.value),
     )

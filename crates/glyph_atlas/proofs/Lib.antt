@@ -1,5 +1,4 @@
 pub mod Lookups
 pub mod Invariants
 pub mod Placing
-pub mod Oldest
 pub mod Sweeping

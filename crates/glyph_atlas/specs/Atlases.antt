@@ -1,6 +1,5 @@
 -- What an atlas holds, in lists, and the words that its calls are described by. Assumes nothing.
---     Atlas             set age and frequency, entries in order of making, tick, last due tick, counters, and what waits: clears, uploads, pages
---     model a           what the atlas of the program holds
+--     Atlas             an atlas: set age and frequency, entries in order of making, tick, last due tick, counters, and what waits: clears, uploads, pages
 --     Unused a          nothing held, nothing counted, nothing waiting, tick 0, and four pages
 --     lookup k es       the entry with the key k, if one has it
 --     renewed k t es    the entries, with the one of key k at tick t
@@ -10,8 +9,7 @@
 --     raised n          one more, up to 2 ^ 64 - 1
 --     is_due f t last   at tick t, with the last due tick before it, the frequency f has been reached
 --     is_old g t n      at tick t, a use at tick n lies more than the age g back
-use Rattle.std.specs.Prelude.{◌≡◌, ℕ, ◌+◌, ◌-◌, ◌^◌, min, Bool, cond, List, [], ◌∷◌, map, Some, None, vec_items, Option, nat_le, nat_lt}
-use Rattle.lists.specs.Bounds.{held}
+use Rattle.std.specs.Prelude.{◌≡◌, ℕ, ◌+◌, ◌-◌, ◌^◌, min, Bool, cond, List, [], ◌∷◌, map, Some, None, Option, nat_le, nat_lt}
 use Rattle.glyph_key.specs.declared.key.GlyphCacheKey.{GlyphCacheKey}
 use Rattle.glyph_key.specs.Keys.{same_key}
 use Rattle.image_cache.specs.declared.image.Image.{Image}
@@ -19,8 +17,7 @@ use Rattle.interface.specs.declared.region.AtlasSlot.{AtlasSlot}
 use Rattle.raster.specs.declared.glyph.RasterMetrics.{RasterMetrics}
 use Rattle.pages.specs.Pages.{Page}
 use Rattle.atlas_pages.specs.Sets.{page_numbers}
-use Rattle.atlas_pages.specs.AllPages.{pages_in, blank}
-use Rattle.glyph_atlas.specs.declared.atlas.GlyphAtlas.{GlyphAtlas}
+use Rattle.atlas_pages.specs.AllPages.{blank}
 use Rattle.glyph_atlas.specs.declared.config.GlyphCacheConfig.{GlyphCacheConfig}
 use Rattle.glyph_atlas.specs.declared.entry.GlyphCacheEntry.{GlyphCacheEntry}
 use Rattle.glyph_atlas.specs.declared.pending.PendingBitmapUpload.{PendingBitmapUpload}
@@ -37,20 +34,6 @@ pub record Atlas : Type 0 where
   pub clears : List PendingClearRect
   pub uploads : List PendingBitmapUpload
   pub pages : List Page
-
-abbrev pub model : GlyphAtlas → Atlas
-model a = record {
-  age = a.config.max_entry_age;
-  frequency = a.config.eviction_frequency;
-  entries = vec_items a.table.entries;
-  tick = a.tick;
-  last_due = a.last_due;
-  hits = a.hits;
-  misses = a.misses;
-  clears = held a.clears;
-  uploads = held a.uploads;
-  pages = pages_in a.pages;
-}
 
 abbrev pub config_of : Atlas → GlyphCacheConfig
 config_of a = record { max_entry_age = a.age; eviction_frequency = a.frequency }

@@ -1,5 +1,5 @@
 // Old entries leave the table: their images are freed, and their places wait to be cleared.
-ghost use Rattle.std.specs.Prelude.{◌≡◌, ◌+◌, ◌≤◌, [], ◌++◌, map, length, take, filter};
+ghost use Rattle.std.specs.Prelude.{◌≡◌, ◌+◌, ◌≤◌, [], ◌++◌, map, length, filter};
 ghost use Rattle.lists.specs.Bounds.{held};
 ghost use Rattle.glyph_atlas.specs.Atlases.{padded};
 ghost use Rattle.glyph_atlas.specs.Calls.{FreedAll, slot_of, image_id};
@@ -7,7 +7,9 @@ ghost use Rattle.glyph_atlas.specs.Shape.{oversized};
 ghost use Rattle.glyph_atlas.specs.Places.{aged, unaged};
 
 use crate::entry::GlyphCacheEntry;
+use crate::limit::AgeLimit;
 use crate::pending::PendingClearRect;
+use crate::slots::PADDING;
 use crate::table::EntryTable;
 use image_cache::cache::ImageCache;
 use interface::region::AtlasSlot;
@@ -22,60 +24,52 @@ fn pad(slot: AtlasSlot) -> PendingClearRect
         page: slot.page,
         x: slot.x.saturating_sub(1),
         y: slot.y.saturating_sub(1),
-        width: slot.width + 2,
-        height: slot.height + 2,
+        width: slot.width + PADDING,
+        height: slot.height + PADDING,
     }
 }
 
-fn is_old(entry: GlyphCacheEntry, tick: u64, age: u64) -> bool
-    ensures { result ≡ aged tick age entry }
-{
-    tick.saturating_sub(entry.tick) > age
+impl AgeLimit {
+    fn is_past(self, entry: &GlyphCacheEntry) -> bool
+        ensures { result ≡ aged self entry.now }
+    {
+        self.tick.saturating_sub(entry.tick) > self.age
+    }
 }
 
-// Those that stay move to the front, in order; answers how many they are.
-fn sweep<C: ImageCache>(
-    entries: &mut [GlyphCacheEntry],
-    tick: u64,
-    age: u64,
+fn free_old<C: ImageCache>(
+    entries: &[GlyphCacheEntry],
+    limit: AgeLimit,
     clears: &mut Bounded<PendingClearRect, 256>,
     cache: &mut C,
-) -> usize
-    requires room { length (held clears.old) + length entries.old ≤ 256 }
-    requires sized { filter oversized entries.old ≡ [] }
-    ensures stay { take result entries.new ≡ filter (unaged tick age) entries.old }
-    ensures clears { held clears.new ≡ held clears.old ++ map padded (map slot_of (filter (aged tick age) entries.old)) }
-    ensures images { FreedAll (C.meaning cache.old) (map image_id (map slot_of (filter (aged tick age) entries.old))) (C.meaning cache.new) }
+)
+    requires room { length (held clears.old) + length entries.now ≤ 256 }
+    requires sized { filter oversized entries.now ≡ [] }
+    ensures clears { held clears.new ≡ held clears.old ++ map padded (map slot_of (filter (aged limit) entries.now)) }
+    ensures images { FreedAll (C.meaning cache.old) (map image_id (map slot_of (filter (aged limit) entries.now))) (C.meaning cache.new) }
 {
-    let mut to = 0;
-    for i in 0..entries.len() {
-        let entry = entries[i];
-        if is_old(entry, tick, age) {
+    for entry in entries {
+        if limit.is_past(entry) {
             // an image that is not live any more is passed over
             let _ = cache.free(entry.slot.id);
             let _ = clears.push(pad(entry.slot));
-        } else {
-            entries[to] = entry;
-            to += 1;
         }
     }
-    to
 }
 
 impl EntryTable {
     pub(crate) fn evict<C: ImageCache>(
         &mut self,
-        tick: u64,
-        age: u64,
+        limit: AgeLimit,
         clears: &mut Bounded<PendingClearRect, 256>,
         cache: &mut C,
     )
         requires { length (held clears.old) + length self.old.entries.items ≤ 256 }
-        ensures stay { self.new.entries.items ≡ filter (unaged tick age) self.old.entries.items }
-        ensures clears { held clears.new ≡ held clears.old ++ map padded (map slot_of (filter (aged tick age) self.old.entries.items)) }
-        ensures images { FreedAll (C.meaning cache.old) (map image_id (map slot_of (filter (aged tick age) self.old.entries.items))) (C.meaning cache.new) }
+        ensures stay { self.new.entries.items ≡ filter (unaged limit) self.old.entries.items }
+        ensures clears { held clears.new ≡ held clears.old ++ map padded (map slot_of (filter (aged limit) self.old.entries.items)) }
+        ensures images { FreedAll (C.meaning cache.old) (map image_id (map slot_of (filter (aged limit) self.old.entries.items))) (C.meaning cache.new) }
     {
-        let staying = sweep(self.entries.as_mut_slice(), tick, age, clears, cache);
-        self.entries.truncate(staying);
+        free_old(self.entries.as_slice(), limit, clears, cache);
+        self.entries.retain(|entry| !limit.is_past(entry));
     }
 }

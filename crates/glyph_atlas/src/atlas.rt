@@ -1,9 +1,14 @@
-// The atlas and what it holds.
+// The atlas and what it holds; contracts see the record `Atlas`, in lists and numbers.
+ghost use Rattle.lists.specs.Bounds.{held};
+ghost use Rattle.atlas_pages.specs.AllPages.{pages_in};
+ghost use Rattle.glyph_atlas.specs.Atlases.{Atlas};
+
 use crate::config::GlyphCacheConfig;
 use crate::pending::{PendingBitmapUpload, PendingClearRect};
 use crate::table::EntryTable;
 use atlas_pages::set::AtlasPages;
 use lists::bounded::Bounded;
+use std::marker::Model;
 
 #[derive(Drop)]
 pub struct GlyphAtlas {
@@ -18,4 +23,21 @@ pub struct GlyphAtlas {
     pub(crate) clears: Bounded<PendingClearRect, 256>,
     pub(crate) uploads: Bounded<PendingBitmapUpload, 64>,
     pub(crate) pages: AtlasPages,
+}
+
+impl Model for GlyphAtlas {
+    ghost Value = { Atlas };
+
+    ghost view = { λ a. record {
+      age = a.config.max_entry_age;
+      frequency = a.config.eviction_frequency;
+      entries = a.table.entries.items;
+      tick = a.tick;
+      last_due = a.last_due;
+      hits = a.hits;
+      misses = a.misses;
+      clears = held a.clears;
+      uploads = held a.uploads;
+      pages = pages_in a.pages;
+    } };
 }

@@ -1,5 +1,4 @@
 // Starting over.
-ghost use Rattle.glyph_atlas.specs.Atlases.{model};
 ghost use Rattle.glyph_atlas.specs.Calls.{Emptied, Uncounted};
 
 use crate::atlas::GlyphAtlas;
@@ -7,7 +6,7 @@ use crate::atlas::GlyphAtlas;
 impl GlyphAtlas {
     // The counters start again.
     pub fn clear_stats(&mut self)
-        ensures { Uncounted (model self.old) (model self.new) }
+        ensures { Uncounted self.old self.new }
     {
         self.hits = 0;
         self.misses = 0;
@@ -15,7 +14,7 @@ impl GlyphAtlas {
 
     // Everything starts again; the images stay in the cache.
     pub fn clear(&mut self)
-        ensures { Emptied (model self.old) (model self.new) }
+        ensures { Emptied self.old self.new }
     {
         self.pages.clear();
         self.clear_stats();

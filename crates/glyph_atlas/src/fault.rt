@@ -9,7 +9,7 @@ use shapes::refusal::Refusal;
 use std::fmt;
 use std::fmt::Display;
 
-#[derive(Clone, Copy)]
+#[derive(Clone, Copy, PartialEq, Eq)]
 pub enum AtlasFault {
     Raster(RasterFault),
     KeyHeld,

@@ -8,6 +8,7 @@ pub mod config;
 pub mod entry;
 pub mod fault;
 pub mod inserting;
+mod limit;
 pub mod lookup;
 pub mod opens;
 pub mod pending;

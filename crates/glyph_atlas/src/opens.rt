@@ -1,6 +1,6 @@
 // New atlases.
 ghost use Rattle.std.specs.Prelude.{◌≡◌, IfOk};
-ghost use Rattle.glyph_atlas.specs.Atlases.{model, Unused, config_of, default_config};
+ghost use Rattle.glyph_atlas.specs.Atlases.{Unused, config_of, default_config};
 
 use crate::atlas::GlyphAtlas;
 use crate::config::GlyphCacheConfig;
@@ -12,7 +12,7 @@ use std::alloc::{AllocError, Global};
 impl GlyphAtlas {
     // All memory is taken here, and no later call wants any.
     pub fn with_config(heap: Global, config: GlyphCacheConfig) -> Result<GlyphAtlas, AllocError>
-        ensures { IfOk result (λ a. Unused (model a) × (config_of (model a) ≡ config)) }
+        ensures { IfOk result (λ a. Unused a × (config_of a ≡ config)) }
     {
         let table = EntryTable::new(heap)?;
         let clears = Bounded::new(heap)?;
@@ -31,16 +31,9 @@ impl GlyphAtlas {
         })
     }
 
-    // An entry may be idle for 64 ticks, and every 64 ticks that is looked at.
     pub fn new(heap: Global) -> Result<GlyphAtlas, AllocError>
-        ensures { IfOk result (λ a. Unused (model a) × (config_of (model a) ≡ default_config)) }
+        ensures { IfOk result (λ a. Unused a × (config_of a ≡ default_config)) }
     {
-        GlyphAtlas::with_config(
-            heap,
-            GlyphCacheConfig {
-                max_entry_age: 64,
-                eviction_frequency: 64,
-            },
-        )
+        GlyphAtlas::with_config(heap, GlyphCacheConfig::default())
     }
 }

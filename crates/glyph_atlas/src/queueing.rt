@@ -2,7 +2,6 @@
 ghost use Rattle.std.specs.Prelude.{◌≡◌, length};
 ghost use Rattle.shapes.specs.Answers.{KeepsRefused};
 ghost use Rattle.atlas_pages.specs.AllPages.{any_crowded};
-ghost use Rattle.glyph_atlas.specs.Atlases.{model};
 ghost use Rattle.glyph_atlas.specs.Queues.{Commanded, Queued};
 
 use crate::atlas::GlyphAtlas;
@@ -13,36 +12,32 @@ use interface::values::AtlasCommand;
 impl GlyphAtlas {
     // Some page has fewer than 3 of its 120 places free.
     pub fn is_crowded(&self) -> bool
-        ensures { result ≡ any_crowded (model self.now).pages }
+        ensures { result ≡ any_crowded self.now.pages }
     {
         self.pages.is_crowded()
     }
 
     pub fn uploads_waiting(&self) -> usize
-        ensures { result ≡ length (model self.now).uploads }
+        ensures { result ≡ length self.now.uploads }
     {
         self.uploads.len()
     }
 
     // Three commands for the page of that number; refused with 13 where some page is crowded.
     pub fn record(&mut self, page: u32, commands: [AtlasCommand; 3]) -> Result<(), AtlasFault>
-        ensures records { Commanded (model self.old) page commands result (model self.new) }
+        ensures records { Commanded self.old page commands result self.new }
         ensures keeps { KeepsRefused result self.old self.new }
     {
-        match self.pages.record(page, commands) {
-            Ok(()) => Ok(()),
-            Err(_) => Err(AtlasFault::QueueFull),
-        }
+        self.pages
+            .record(page, commands)
+            .map_err(|_| AtlasFault::QueueFull)
     }
 
     // An upload, after those that wait; refused with 13 where 64 do.
     pub fn queue_upload(&mut self, upload: PendingBitmapUpload) -> Result<(), AtlasFault>
-        ensures queues { Queued (model self.old) upload result (model self.new) }
+        ensures queues { Queued self.old upload result self.new }
         ensures keeps { KeepsRefused result self.old self.new }
     {
-        match self.uploads.push(upload) {
-            Ok(()) => Ok(()),
-            Err(_) => Err(AtlasFault::QueueFull),
-        }
+        self.uploads.push(upload).map_err(|_| AtlasFault::QueueFull)
     }
 }

@@ -1,6 +1,5 @@
 // Replay: the pages are offered to a target, and emptied.
 ghost use Rattle.shapes.specs.Answers.{KeepsRefused};
-ghost use Rattle.glyph_atlas.specs.Atlases.{model};
 ghost use Rattle.glyph_atlas.specs.Calls.{Replayed};
 
 use crate::atlas::GlyphAtlas;
@@ -13,12 +12,10 @@ impl GlyphAtlas {
         &mut self,
         target: &mut T,
     ) -> Result<Result<(), T::Failure>, AtlasFault>
-        ensures replays { Replayed T.PageTarget.takes (model self.old) target.old result (model self.new) target.new }
+        ensures replays { Replayed T.PageTarget.takes self.old target.old result self.new target.new }
         ensures keeps { KeepsRefused result self.old self.new }
     {
-        if self.clears.len() > 0 {
-            return Err(AtlasFault::ClearWaits);
-        }
+        self.no_clear_waits()?;
         let answer = self.pages.offer_all(target);
         self.pages.clear();
         Ok(answer)

@@ -1,25 +1,32 @@
-// Where the entry of a key stands.
-ghost use Rattle.glyph_atlas.specs.Places.{PlaceOf};
+// The entry of a key: whether there is one, and its use.
+ghost use Rattle.std.specs.Prelude.{◌≡◌, is_some};
+ghost use Rattle.glyph_atlas.specs.Atlases.{lookup};
+ghost use Rattle.glyph_atlas.specs.Places.{PlaceOf, Renewed};
 
-use crate::entry::GlyphCacheEntry;
 use crate::table::EntryTable;
 use glyph_key::key::GlyphCacheKey;
-
-fn place_in(entries: &[GlyphCacheEntry], key: &GlyphCacheKey) -> Option<usize>
-    ensures { PlaceOf key.now entries.now result }
-{
-    for (i, entry) in entries.iter().enumerate() {
-        if entry.key.same(key) {
-            return Some(i);
-        }
-    }
-    None
-}
+use interface::region::AtlasSlot;
 
 impl EntryTable {
-    pub(crate) fn place_of(&self, key: &GlyphCacheKey) -> Option<usize>
+    fn place_of(&self, key: &GlyphCacheKey) -> Option<usize>
         ensures { PlaceOf key.now self.now.entries.items result }
     {
-        place_in(self.entries.as_slice(), key)
+        self.entries.iter().position(|entry| entry.key.same(key))
+    }
+
+    pub(crate) fn has(&self, key: &GlyphCacheKey) -> bool
+        ensures { result ≡ is_some (lookup key.now self.now.entries.items) }
+    {
+        self.place_of(key).is_some()
+    }
+
+    // The slot of that key, whose entry takes the tick, if there is an entry with it.
+    pub(crate) fn renew(&mut self, key: &GlyphCacheKey, tick: u64) -> Option<AtlasSlot>
+        ensures { Renewed key.now tick self.old.entries.items result self.new.entries.items }
+    {
+        let i = self.place_of(key)?;
+        let entry = &mut self.entries[i];
+        entry.tick = tick;
+        Some(entry.slot)
     }
 }

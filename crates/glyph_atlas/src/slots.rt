@@ -6,12 +6,12 @@ ghost use Rattle.glyph_atlas.specs.Places.{PlacedOr};
 
 use image_cache::cache::ImageCache;
 use image_cache::fault::CacheFault;
-use image_cache::image::Image;
+use image_cache::image::{Image, Size};
 use interface::region::AtlasSlot;
 use raster::glyph::RasterMetrics;
 
 // One pixel more on every side.
-const PADDING: u16 = 2;
+pub(crate) const PADDING: u16 = 2;
 
 // The place inside the padding.
 fn slot_in(image: Image, metrics: RasterMetrics) -> AtlasSlot
@@ -38,7 +38,11 @@ pub(crate) fn place<C: ImageCache>(
     ensures places { PlacedOr (C.meaning cache.old) metrics result (C.meaning cache.new) }
     ensures keeps { KeepsRefused result cache.old cache.new }
 {
-    let id = cache.allocate(metrics.width + PADDING, metrics.height + PADDING)?;
+    let size = Size {
+        w: metrics.width + PADDING,
+        h: metrics.height + PADDING,
+    };
+    let id = cache.allocate(size)?;
     let image = cache.get(id).unwrap();
     Ok(slot_in(image, metrics))
 }

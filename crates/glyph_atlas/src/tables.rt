@@ -1,20 +1,10 @@
 // The table made, asked, added to and emptied. Only `new` asks for memory.
-ghost use Rattle.std.specs.Prelude.{◌≡◌, ◌+◌, ◌<◌, ◌≤◌, [], ◌∷◌, ◌++◌, length, IfOk, None, vec_len, vec_capacity};
+ghost use Rattle.std.specs.Prelude.{◌≡◌, ◌<◌, ◌≤◌, [], ◌∷◌, ◌++◌, length, IfOk, None};
 ghost use Rattle.glyph_atlas.specs.Atlases.{lookup};
 
 use crate::entry::GlyphCacheEntry;
 use crate::table::{EntryTable, MOST_ENTRIES};
 use std::alloc::{AllocError, Global};
-
-// Entries stand in order of making.
-fn put_last(entries: &mut Vec<GlyphCacheEntry>, entry: GlyphCacheEntry)
-    requires { vec_len entries.old < vec_capacity entries.old }
-    ensures items { entries.new.items ≡ entries.old.items ++ entry ∷ [] }
-    ensures len { vec_len entries.new ≡ vec_len entries.old + 1 }
-    ensures capacity { vec_capacity entries.new ≡ vec_capacity entries.old }
-{
-    entries.push_reserved(entry);
-}
 
 impl EntryTable {
     pub(crate) fn new(heap: Global) -> Result<EntryTable, AllocError>
@@ -30,6 +20,7 @@ impl EntryTable {
         self.entries.len()
     }
 
+    // Entries stand in order of making.
     pub(crate) fn add(&mut self, entry: GlyphCacheEntry)
         requires room { length self.old.entries.items < 256 }
         requires new { lookup entry.key self.old.entries.items ≡ None }
@@ -37,7 +28,7 @@ impl EntryTable {
         requires low { entry.slot.height ≤ 65533 }
         ensures { self.new.entries.items ≡ self.old.entries.items ++ entry ∷ [] }
     {
-        put_last(&mut self.entries, entry);
+        self.entries.push_reserved(entry);
     }
 
     pub(crate) fn clear(&mut self)

@@ -9,10 +9,9 @@ pub invariant_of-self : goal.invariant_of-self
 invariant_of-self c =
     let t = c.args.self.now in
     let es = vec_items t.entries in
-    let n = t.entries.ok.0 in
     record {
       small = omega arith;
       room = omega arith;
-      once = ap (λ xs. repeats (keys_of xs)) c.put_last.ensures.items ∙ once_more es c.args.entry t.once c.requires.new;
-      sized = ap (filter oversized) c.put_last.ensures.items ∙ sized_more es c.args.entry t.sized c.requires.narrow c.requires.low;
+      once = ap (λ xs. repeats (keys_of xs)) c.push_reserved.ensures.items ∙ once_more es c.args.entry t.once c.requires.new;
+      sized = ap (filter oversized) c.push_reserved.ensures.items ∙ sized_more es c.args.entry t.sized c.requires.narrow c.requires.low;
     }

@@ -1,5 +1,5 @@
 -- A page to which commands may be added: it keeps its number, and has places where no page is crowded. Assumes nothing.
-use Rattle.std.proofs.Common.{◌≡◌, ℕ, zero, suc, ◌<◌, Bool, true, false, cond, not, eqb, List, [], ◌∷◌, ◌++◌, map, length, get_or, take, drop, filter, sym, refl, ap, ◌∙◌, arith, rules}
+use Rattle.std.proofs.Common.{◌≡◌, ℕ, zero, suc, ◌<◌, Bool, true, false, cond, not, eqb, List, [], ◌∷◌, ◌++◌, map, length, get_or, take, drop, filter, refl, ap, ◌∙◌, arith, rules}
 use Rattle.std.proofs.lemmas.List.{places, length-map, length-take-le}
 use Rattle.shapes.specs.Answers.{none}
 use Rattle.interface.specs.declared.values.AtlasCommand.{AtlasCommand}

@@ -4,7 +4,7 @@ use Rattle.std.proofs.lemmas.List.{length-append, take-append-drop, length-map, 
 use Rattle.std.proofs.lemmas.List.Edits.{map_over_more}
 use Rattle.pages.specs.Pages.{Page, emptied}
 use Rattle.atlas_pages.specs.AllPages.{blank}
-use Rattle.atlas_pages.specs.Sets.{number_of, numbers, page_numbers}
+use Rattle.atlas_pages.specs.Sets.{numbers, page_numbers}
 
 -- of the pages xs, the first i are changed by f
 module _ (f : Page → Page) (xs : List Page) where

@@ -3,7 +3,7 @@ ghost use Rattle.std.specs.Prelude.{◌≡◌, false, map, IfOk};
 ghost use Rattle.std.specs.List.{list_all, list_any};
 ghost use Rattle.shapes.specs.Answers.{none, KeepsRefused};
 ghost use Rattle.pages.specs.Pages.{emptied, filled};
-ghost use Rattle.atlas_pages.specs.Sets.{page_numbers};
+ghost use Rattle.atlas_pages.specs.Sets.{numbers, page_numbers};
 ghost use Rattle.atlas_pages.specs.AllPages.{blank, crowded, any_crowded, add_commands, RecordedOn, Offers};
 
 use crate::set::AtlasPages;
@@ -114,7 +114,8 @@ impl AtlasPages {
 
     // Offers every page that has a command, in order, up to the first that fails, and answers its failure.
     pub fn offer_all<T: PageTarget>(&self, target: &mut T) -> Result<(), T::Failure>
-        ensures { Offers T.PageTarget.takes (filled self.now) target.old result target.new }
+        ensures offers { Offers T.PageTarget.takes (filled self.now) target.old result target.new }
+        ensures numbered { numbers self.now ≡ page_numbers }
     {
         offer_to(&self.recorders, target)
     }

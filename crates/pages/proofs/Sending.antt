@@ -1,5 +1,5 @@
 -- The steps of sending a page's commands. Assumes nothing.
-use Rattle.std.proofs.Common.{◌≡◌, ℕ, ◌+◌, ◌<◌, ◌≤◌, List, [], ◌∷◌, ◌++◌, map, length, get_or, take, Ok, Err, Result, IsOk, sym, ◌∙◌, subst, arith, rules}
+use Rattle.std.proofs.Common.{◌≡◌, ℕ, ◌+◌, ◌<◌, ◌≤◌, List, map, length, get_or, take, Ok, Err, Result, IsOk, sym, ◌∙◌, subst, arith, rules}
 use Rattle.std.proofs.lemmas.List.{map_more, take_all, length-map, length-take-le}
 use Rattle.interface.specs.declared.values.AtlasCommand.{AtlasCommand}
 use Rattle.interface.specs.declared.fault.SinkFault.{SinkFault}

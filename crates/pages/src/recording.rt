@@ -1,5 +1,5 @@
 // A page recorder as a sink with places for 120 commands, and what else it does.
-ghost use Rattle.std.specs.Prelude.{◌≡◌, [], IfOk};
+ghost use Rattle.std.specs.Prelude.{◌≡◌, ◌≤◌, [], length, IfOk};
 ghost use Rattle.shapes.specs.Answers.{none, KeepsRefused};
 ghost use Rattle.pages.specs.Pages.{emptied, Recorded};
 ghost use Rattle.pages.specs.Recorders.{recorder_means};
@@ -33,7 +33,8 @@ impl AtlasCommandRecorder {
     }
 
     pub fn commands(&self) -> &[AtlasCommand]
-        ensures { result.now ≡ self.now.commands }
+        ensures value { result.now ≡ self.now.commands }
+        ensures fits { length self.now.commands ≤ 120 }
     {
         self.commands.as_slice()
     }

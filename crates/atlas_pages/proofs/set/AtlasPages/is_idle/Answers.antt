@@ -1,5 +1,5 @@
 -- All pages are empty exactly where none is left of those that hold a command.
-use Rattle.std.proofs.Common.{Bool, List, ap, ◌∙◌}
+use Rattle.std.proofs.Common.{Bool, ap, ◌∙◌}
 use Rattle.std.specs.List.{list_all}
 use Rattle.shapes.specs.Answers.{none}
 use Rattle.pages.specs.Pages.{Page}

@@ -1,11 +1,8 @@
 -- Records, one after the other, read back as their calls.
-use Rattle.std.proofs.Common.{◌≡◌, ℕ, zero, suc, ◌<◌, ◌≤◌, List, [], ◌∷◌, ◌++◌, length, take, drop, Some, None, sym, refl, ap, ◌∙◌, subst, append_assoc, append-nil, arith, lit≤, length-append}
+use Rattle.std.proofs.Common.{◌≡◌, ℕ, zero, suc, ◌<◌, ◌≤◌, List, [], ◌∷◌, ◌++◌, length, take, drop, sym, refl, ap, ◌∙◌, subst, append_assoc, append-nil, arith, lit≤, rules, length-append}
+use Rattle.std.proofs.lemmas.List.Concat.{flat_map-append}
 use lib.Seq.{take-append_seam, drop-append_seam}
-use Rattle.interface.specs.declared.values.AtlasPaint.TheVariants.{Solid, Gradient}
-use Rattle.interface.specs.declared.values.AtlasCommand.TheVariants.{SetTransform, SetPaint, SetPaintTransform, FillPath, FillRect, PushClipLayer, PushClipPath, PushClipRect, PushBlendLayer, PopLayer, PopClipPath}
-use Rattle.interface.specs.declared.call.Picture.TheVariants.{PixmapHandle, AtlasPage}
 use Rattle.interface.specs.declared.call.Call.{Call}
-use Rattle.interface.specs.declared.call.Call.TheVariants.{Command, SaveState, RestoreState, StrokePath, SetPaintImage, SetTint}
 use Rattle.stream_screen.specs.Stream.{bytes_of, framed, kind_of, payload_of, record_of, stream_of}
 use Rattle.stream_screen.specs.Reads.{number_of, call_of, read, calls_in, Whole}
 use Rattle.stream_screen.specs.Writes.{FitsCall, WroteIn}
@@ -13,30 +10,11 @@ use Rattle.stream_screen.specs.Laws.{Fit, ReadsBack, Short}
 use Rattle.stream_screen.proofs.Back.{number_back, call_back}
 
 -- the head of a record is within its two times two bytes
-record Small (c : Call) : Type 0 where
-  pub payload : length (payload_of c) ≤ 48
-  pub kind : kind_of c ≤ 16
+payload_small : (c : Call) → length (payload_of c) ≤ 48
+payload_small c = search rules
 
-small : (c : Call) → Small c
-small (Command (SetTransform t)) = record { payload = lit≤ tt; kind = lit≤ tt }
-small (Command (SetPaint (Solid c))) = record { payload = lit≤ tt; kind = lit≤ tt }
-small (Command (SetPaint (Gradient g))) = record { payload = lit≤ tt; kind = lit≤ tt }
-small (Command (SetPaintTransform t)) = record { payload = lit≤ tt; kind = lit≤ tt }
-small (Command (FillPath p)) = record { payload = lit≤ tt; kind = lit≤ tt }
-small (Command (FillRect r)) = record { payload = lit≤ tt; kind = lit≤ tt }
-small (Command (PushClipLayer p)) = record { payload = lit≤ tt; kind = lit≤ tt }
-small (Command (PushClipPath p)) = record { payload = lit≤ tt; kind = lit≤ tt }
-small (Command (PushClipRect r)) = record { payload = lit≤ tt; kind = lit≤ tt }
-small (Command (PushBlendLayer b)) = record { payload = lit≤ tt; kind = lit≤ tt }
-small (Command PopLayer) = record { payload = lit≤ tt; kind = lit≤ tt }
-small (Command PopClipPath) = record { payload = lit≤ tt; kind = lit≤ tt }
-small SaveState = record { payload = lit≤ tt; kind = lit≤ tt }
-small RestoreState = record { payload = lit≤ tt; kind = lit≤ tt }
-small (StrokePath p) = record { payload = lit≤ tt; kind = lit≤ tt }
-small (SetPaintImage (PixmapHandle h q)) = record { payload = lit≤ tt; kind = lit≤ tt }
-small (SetPaintImage (AtlasPage n q)) = record { payload = lit≤ tt; kind = lit≤ tt }
-small (SetTint None) = record { payload = lit≤ tt; kind = lit≤ tt }
-small (SetTint (Some c)) = record { payload = lit≤ tt; kind = lit≤ tt }
+kind_small : (c : Call) → kind_of c ≤ 16
+kind_small c = search rules
 
 read_framed : (n k : ℕ) (p rest : List ℕ) → length p < 65536 → k < 65536 → read (suc n) (framed k p ++ rest) ≡ call_of k p ++ read n rest
 read_framed n k p rest h j =
@@ -47,7 +25,7 @@ read_framed n k p rest h j =
 
 read_record : (n : ℕ) (c : Call) (rest : List ℕ) → read (suc n) (record_of c ++ rest) ≡ call_of (kind_of c) (payload_of c) ++ read n rest
 read_record n c rest =
-    read_framed n (kind_of c) (payload_of c) rest (omega (arith, (small c).payload)) (omega (arith, (small c).kind))
+    read_framed n (kind_of c) (payload_of c) rest (omega (arith, payload_small c)) (omega (arith, kind_small c))
 
 read_none : (n : ℕ) → read n [] ≡ []
 read_none zero = refl
@@ -74,11 +52,6 @@ read_more (c ∷ cs) (suc m) (suc n) d h k =
     ∙ sym (append_assoc x (read m (stream_of cs)) y)
     ∙ ap (λ l. l ++ y) (sym (read_record m c (stream_of cs)))
 
-stream_append : (xs ys : List Call) → stream_of (xs ++ ys) ≡ stream_of xs ++ stream_of ys
-stream_append [] ys = refl
-stream_append (x ∷ xs) ys =
-    ap (λ l. record_of x ++ l) (stream_append xs ys) ∙ sym (append_assoc (record_of x) (stream_of xs) (stream_of ys))
-
 record_long : (c : Call) → 4 ≤ length (record_of c)
 record_long c = omega arith
 
@@ -102,11 +75,11 @@ module _ (bs : List ℕ) (d : Call) (whole : Whole bs) (fits : FitsCall d) where
   whole_more =
       ap (λ l. l ++ record_of d) whole
       ∙ ap (λ l. stream_of (calls_in bs) ++ l) (sym (append-nil (record_of d)))
-      ∙ sym (stream_append (calls_in bs) (d ∷ []))
+      ∙ sym (flat_map-append record_of (calls_in bs) (d ∷ []))
       ∙ ap stream_of (sym calls_more)
 
 pub record_short : Short
-record_short c = omega (arith, (small c).payload)
+record_short c = omega (arith, payload_small c)
 
 read_all : (cs : List Call) (n : ℕ) → length cs ≤ n → Fit cs → read n (stream_of cs) ≡ cs
 read_all [] n h fit = read_none n

@@ -6,7 +6,7 @@
 --     payload_of c     the bytes of what it carries
 --     bytes_of k n     the number n in k bytes, the lowest first; f32_bytes, f64_bytes: of its bit pattern, every NaN by one pattern
 --     quality_byte, paint_bytes, picture_bytes, tint_bytes    a byte says which case it is, and what the case carries follows
-use Rattle.std.specs.Prelude.{ℕ, zero, suc, ◌/◌, ◌%◌, List, [], ◌∷◌, ◌++◌, length, Some, None, Option, to_bits, Float}
+use Rattle.std.specs.Prelude.{ℕ, zero, suc, ◌/◌, ◌%◌, List, [], ◌∷◌, ◌++◌, length, flat_map, Some, None, Option, to_bits, Float}
 use Rattle.std.specs.Float.{binary32, binary64}
 use Rattle.shapes.specs.declared.Affine.{Affine}
 use Rattle.shapes.specs.declared.Rect.{Rect}
@@ -118,5 +118,4 @@ abbrev pub place : ℕ
 place = 52
 
 abbrev pub stream_of : List Call → List ℕ
-stream_of [] = []
-stream_of (c ∷ cs) = record_of c ++ stream_of cs
+stream_of cs = flat_map record_of cs

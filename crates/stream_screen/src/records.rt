@@ -72,7 +72,7 @@ impl Encode for Call {
     }
 }
 
-impl<'a> Writer<'a> {
+impl Writer<'_> {
     // The payload's length stands before the payload, and is known after it.
     pub(crate) fn put_call(&mut self, call: Call)
         requires { Room place self.old }

@@ -1,6 +1,5 @@
 // Old entries leave the table: their images are freed, and their places wait to be cleared.
 ghost use Rattle.std.specs.Prelude.{◌≡◌, ◌+◌, ◌≤◌, [], ◌++◌, map, length, filter};
-ghost use Rattle.lists.specs.Bounds.{held};
 ghost use Rattle.glyph_atlas.specs.Atlases.{padded};
 ghost use Rattle.glyph_atlas.specs.Calls.{FreedAll, slot_of, image_id};
 ghost use Rattle.glyph_atlas.specs.Shape.{oversized};
@@ -43,9 +42,9 @@ fn free_old<C: ImageCache>(
     clears: &mut Bounded<PendingClearRect, 256>,
     cache: &mut C,
 )
-    requires room { length (held clears.old) + length entries.now ≤ 256 }
+    requires room { length clears.old + length entries.now ≤ 256 }
     requires sized { filter oversized entries.now ≡ [] }
-    ensures clears { held clears.new ≡ held clears.old ++ map padded (map slot_of (filter (aged limit) entries.now)) }
+    ensures clears { clears.new ≡ clears.old ++ map padded (map slot_of (filter (aged limit) entries.now)) }
     ensures images { FreedAll (C.meaning cache.old) (map image_id (map slot_of (filter (aged limit) entries.now))) (C.meaning cache.new) }
 {
     for entry in entries {
@@ -64,9 +63,9 @@ impl EntryTable {
         clears: &mut Bounded<PendingClearRect, 256>,
         cache: &mut C,
     )
-        requires { length (held clears.old) + length self.old.entries.items ≤ 256 }
+        requires { length clears.old + length self.old.entries.items ≤ 256 }
         ensures stay { self.new.entries.items ≡ filter (unaged limit) self.old.entries.items }
-        ensures clears { held clears.new ≡ held clears.old ++ map padded (map slot_of (filter (aged limit) self.old.entries.items)) }
+        ensures clears { clears.new ≡ clears.old ++ map padded (map slot_of (filter (aged limit) self.old.entries.items)) }
         ensures images { FreedAll (C.meaning cache.old) (map image_id (map slot_of (filter (aged limit) self.old.entries.items))) (C.meaning cache.new) }
     {
         free_old(self.entries.as_slice(), limit, clears, cache);

@@ -1,6 +1,4 @@
 // The atlas and what it holds; contracts see the record `Atlas`, in lists and numbers.
-ghost use Rattle.lists.specs.Bounds.{held};
-ghost use Rattle.atlas_pages.specs.AllPages.{pages_in};
 ghost use Rattle.glyph_atlas.specs.Atlases.{Atlas};
 
 use crate::config::GlyphCacheConfig;
@@ -36,8 +34,8 @@ impl Model for GlyphAtlas {
       last_due = a.last_due;
       hits = a.hits;
       misses = a.misses;
-      clears = held a.clears;
-      uploads = held a.uploads;
-      pages = pages_in a.pages;
+      clears = a.clears;
+      uploads = a.uploads;
+      pages = a.pages;
     } };
 }

@@ -43,9 +43,10 @@ place_found k es =
       | inr h ↦ subst P (sym (le-ltb i (length es) h.0)) (f ∙ h.1)
     ]
 
--- what is read at that place is the entry
-pub reads : (k : GlyphCacheKey) (es : List GlyphCacheEntry) (i : ℕ) (h : HeldAt k es i) (x : GlyphCacheEntry) → x ≡ get_or es i x → x ≡ h.entry
-reads k es i h x r = r ∙ get_or_from_slice_get es i h.entry x h.there
+module _ (k : GlyphCacheKey) (es : List GlyphCacheEntry) (i : ℕ) (h : HeldAt k es i) (xs : List GlyphCacheEntry) (same : xs ≡ es) where
+  -- what is read at that place is the entry
+  pub reads : (d : GlyphCacheEntry) → get_or xs i d ≡ h.entry
+  reads d = ap (λ ys. get_or ys i d) same ∙ get_or_from_slice_get es i h.entry d h.there
 
-pub renewed_there : (k : GlyphCacheKey) (es : List GlyphCacheEntry) (i : ℕ) (h : HeldAt k es i) (x : GlyphCacheEntry) (t : ℕ) → x ≡ get_or es i x → set es i (new_entry x.key x.slot t) ≡ renewed k t es
-renewed_there k es i h x t r = ap (λ (y : GlyphCacheEntry). set es i (new_entry y.key y.slot t)) (reads k es i h x r) ∙ h.renewing t
+  pub renewed_there : (e : GlyphCacheEntry) (t : ℕ) → e ≡ h.entry → set xs i (new_entry e.key e.slot t) ≡ renewed k t es
+  renewed_there e t q = ap (λ ys. set ys i (new_entry e.key e.slot t)) same ∙ (ap (λ (y : GlyphCacheEntry). set es i (new_entry y.key y.slot t)) q ∙ h.renewing t)

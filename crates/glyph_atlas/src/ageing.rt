@@ -57,16 +57,17 @@ fn free_old<C: ImageCache>(
 }
 
 impl EntryTable {
+    // No clear may wait yet, so that there is a place for each.
     pub(crate) fn evict<C: ImageCache>(
         &mut self,
         limit: AgeLimit,
         clears: &mut Bounded<PendingClearRect, 256>,
         cache: &mut C,
     )
-        requires { length clears.old + length self.old.entries.items ≤ 256 }
-        ensures stay { self.new.entries.items ≡ filter (unaged limit) self.old.entries.items }
-        ensures clears { clears.new ≡ clears.old ++ map padded (map slot_of (filter (aged limit) self.old.entries.items)) }
-        ensures images { FreedAll (C.meaning cache.old) (map image_id (map slot_of (filter (aged limit) self.old.entries.items))) (C.meaning cache.new) }
+        requires { clears.old ≡ [] }
+        ensures stay { self.new ≡ filter (unaged limit) self.old }
+        ensures clears { clears.new ≡ clears.old ++ map padded (map slot_of (filter (aged limit) self.old)) }
+        ensures images { FreedAll (C.meaning cache.old) (map image_id (map slot_of (filter (aged limit) self.old))) (C.meaning cache.new) }
     {
         free_old(self.entries.as_slice(), limit, clears, cache);
         self.entries.retain(|entry| !limit.is_past(entry));

@@ -29,7 +29,7 @@ impl Model for GlyphAtlas {
     ghost view = { λ a. record {
       age = a.config.max_entry_age;
       frequency = a.config.eviction_frequency;
-      entries = a.table.entries.items;
+      entries = a.table;
       tick = a.tick;
       last_due = a.last_due;
       hits = a.hits;

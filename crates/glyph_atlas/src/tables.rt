@@ -3,36 +3,38 @@ ghost use Rattle.std.specs.Prelude.{◌≡◌, ◌<◌, ◌≤◌, [], ◌∷◌
 ghost use Rattle.glyph_atlas.specs.Atlases.{lookup};
 
 use crate::entry::GlyphCacheEntry;
-use crate::table::{EntryTable, MOST_ENTRIES};
+use crate::table::EntryTable;
+use lists::bounded::Bounded;
 use std::alloc::{AllocError, Global};
 
 impl EntryTable {
     pub(crate) fn new(heap: Global) -> Result<EntryTable, AllocError>
-        ensures { IfOk result (λ t. t.entries.items ≡ []) }
+        ensures { IfOk result (λ t. t ≡ []) }
     {
-        let entries = Vec::with_capacity(heap, MOST_ENTRIES)?;
+        let entries = Bounded::new(heap)?;
         Ok(EntryTable { entries })
     }
 
     pub(crate) fn len(&self) -> usize
-        ensures { result ≡ length self.now.entries.items }
+        ensures value { result ≡ length self.now }
+        ensures few { result ≤ 256 }
     {
         self.entries.len()
     }
 
     // Entries stand in order of making.
     pub(crate) fn add(&mut self, entry: GlyphCacheEntry)
-        requires room { length self.old.entries.items < 256 }
-        requires new { lookup entry.key self.old.entries.items ≡ None }
+        requires room { length self.old < 256 }
+        requires new { lookup entry.key self.old ≡ None }
         requires narrow { entry.slot.width ≤ 65533 }
         requires low { entry.slot.height ≤ 65533 }
-        ensures { self.new.entries.items ≡ self.old.entries.items ++ entry ∷ [] }
+        ensures { self.new ≡ self.old ++ entry ∷ [] }
     {
-        self.entries.push_reserved(entry);
+        self.entries.push(entry).unwrap();
     }
 
     pub(crate) fn clear(&mut self)
-        ensures { self.new.entries.items ≡ [] }
+        ensures { self.new ≡ [] }
     {
         self.entries.clear();
     }

@@ -18,11 +18,11 @@ returns-clause-replays g c =
     let q = c.offer_all-answer.result in
     let clean = ap (λ (a : Atlas). a.clears) c.self.view_is ∙ c.in_ok-no_clear_waits.ensures in
     rw (← c.self.view_is) (
-      accepted o.0 (has_failed q),
+      accepted o.offers.0 (has_failed q),
       (
         record {
           clean = clean;
-          offered = o.1.0;
+          offered = o.offers.1.0;
           pages = c.clear.ensures.empties;
           entries = refl;
           clears = refl;
@@ -31,6 +31,6 @@ returns-clause-replays g c =
           clock = record { tick = refl; last_due = refl };
           counts = record { hits = refl; misses = refl };
         },
-        (q, (refl, refl, o.1.1)),
+        (q, (refl, refl, o.offers.1.1)),
       ),
     )

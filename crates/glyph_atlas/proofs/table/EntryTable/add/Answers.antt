@@ -1,5 +1,7 @@
 -- The table with one entry more is as every table is.
-use Rattle.std.proofs.Common.{vec_items, filter, ap, ◌∙◌, arith}
+use Rattle.std.proofs.Common.{◌≡◌, cond, [], ◌∷◌, ◌++◌, length, filter, sym, ap, ◌∙◌}
+use Rattle.std.proofs.lemmas.Bool.{lt-ltb}
+use Rattle.lists.specs.Bounds.{appended}
 use Rattle.glyph_key.specs.Once.{repeats}
 use Rattle.glyph_atlas.specs.Shape.{keys_of, oversized}
 use Rattle.glyph_atlas.proofs.Invariants.{once_more, sized_more}
@@ -7,11 +9,10 @@ use Rattle.glyph_atlas.proofs.table.EntryTable.add.Goals as goal
 
 pub invariant_of-self : goal.invariant_of-self
 invariant_of-self c =
-    let t = c.args.self.now in
-    let es = vec_items t.entries in
-    record {
-      small = omega arith;
-      room = omega arith;
-      once = ap (λ xs. repeats (keys_of xs)) c.push_reserved.ensures.items ∙ once_more es c.args.entry t.once c.requires.new;
-      sized = ap (filter oversized) c.push_reserved.ensures.items ∙ sized_more es c.args.entry t.sized c.requires.narrow c.requires.low;
-    }
+    let es = c.args.self.now in
+    let e = c.args.entry in
+    let there = ap (λ b. cond b (es ++ e ∷ []) es) (lt-ltb (length es) 256 c.requires.room) in
+    let put = c.push.ensures.items ∙ (ap (λ ys. appended 256 ys e) c.self.view_is ∙ there) in
+    let once = ap (λ ys. repeats (keys_of ys)) (sym c.self.view_is) ∙ c.self.invariant.0 in
+    let sized = ap (filter oversized) (sym c.self.view_is) ∙ c.self.invariant.1 in
+    (ap (λ ys. repeats (keys_of ys)) put ∙ once_more es e once c.requires.new, ap (filter oversized) put ∙ sized_more es e sized c.requires.narrow c.requires.low)

@@ -14,10 +14,12 @@ wrote_both {xs = xs} {ys = ys} {o = o} {i = i} x y = record {
 
 -- the value at i, after those before it
 module _ {X : Type 0} (bytes : X → List ℕ) (xs : List X) (i : ℕ) where
-  pub room_one : (d : X) {o p : List ℕ} {u v : ℕ} → i < length xs → u + length (flat_map bytes xs) ≤ length o → WroteIn (flat_map bytes (take i xs)) o u p v → v + length (bytes (get_or xs i d)) ≤ length p
+  pub room_one : (d : X) {o p : List ℕ} {u v : ℕ} → i < length xs → u + length (flat_map bytes xs) ≤ length o
+      → WroteIn (flat_map bytes (take i xs)) o u p v → v + length (bytes (get_or xs i d)) ≤ length p
   room_one d h room x = omega (arith, x.more, x.long, length-flat_map-take bytes xs i d h)
 
-  pub wrote_one : (d : X) {o p q : List ℕ} {u v w : ℕ} → i < length xs → WroteIn (flat_map bytes (take i xs)) o u p v → WroteIn (bytes (get_or xs i d)) p v q w → WroteIn (flat_map bytes (take (i + 1) xs)) o u q w
+  pub wrote_one : (d : X) {o p q : List ℕ} {u v w : ℕ} → i < length xs
+      → WroteIn (flat_map bytes (take i xs)) o u p v → WroteIn (bytes (get_or xs i d)) p v q w → WroteIn (flat_map bytes (take (i + 1) xs)) o u q w
   wrote_one d {o = o} {q = q} {u = u} {w = w} h x y =
       subst (λ l. WroteIn l o u q w) (flat_map_more bytes [] (take i xs) (get_or xs i d) ∙ ap (flat_map bytes) (sym (take_more xs i d h))) (wrote_both x y)
 
@@ -32,7 +34,8 @@ put_mid_over a was new rest t u k h j =
     simp (append_assoc, x, y, z)
 
 -- the first bytes of what was written, written over
-pub wrote_over : (was new rest : List ℕ) {o p : List ℕ} {u v k : ℕ} → u ≤ length o → v ≤ length p → length was ≡ k → length new ≡ k → WroteIn (was ++ rest) o u p v → WroteIn (new ++ rest) o u (put_mid u k p new) v
+pub wrote_over : (was new rest : List ℕ) {o p : List ℕ} {u v k : ℕ} → u ≤ length o → v ≤ length p → length was ≡ k → length new ≡ k
+    → WroteIn (was ++ rest) o u p v → WroteIn (new ++ rest) o u (put_mid u k p new) v
 wrote_over was new rest {o = o} {p = p} {u = u} {v = v} {k = k} h room i j w =
     let front = length-take-le u o h in
     let split : p ≡ (take u o ++ (was ++ rest)) ++ drop v p = sym (take-append-drop v p) ∙ ap (λ l. l ++ drop v p) w.adds in

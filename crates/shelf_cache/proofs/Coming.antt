@@ -14,7 +14,6 @@ use Rattle.shelf_cache.proofs.Counts.{count_le}
 use Rattle.shelf_cache.proofs.Fits.{admits_is}
 use Rattle.shelf_cache.proofs.Putting.{put_sound}
 use Rattle.shelf_cache.proofs.Ready.{Ready, ready}
-use Rattle.shelf_cache.proofs.Whole.{sound_of}
 
 pub record Come (g : Shelves) (w h i : ℕ) (p : Place) (shelves : List Shelf) (standing : List ℕ) (spots : List Spot) : Type 0 where
   pub sound : Sound g.width g.height g.count shelves standing spots (g.live + 1)
@@ -34,8 +33,8 @@ module _ (g : Shelves) (w h : ℕ) (p : Place) (fit : FitIn g w h p) where
   pub spare : g.live < 256
   spare = size.0
 
-  ready_here : Ready g.width g.height g.count g.shelves g.standing g.spots g.live w h p
-  ready_here = ready g.width g.height g.count g.shelves g.standing g.spots g.live (sound_of g) w h size.2 p fit
+  ready_here : Ready g w h p
+  ready_here = ready g w h size.2 p fit
 
   -- the shelf has room for the width and the count
   pub holds_more : (p.shelf.used + w ≤ 65535) × (p.shelf.images < 256)
@@ -50,11 +49,11 @@ module _ (g : Shelves) (w h : ℕ) (p : Place) (fit : FitIn g w h p) where
       let standing : List ℕ = raised g.standing p.at in
       let t = fit.there in
       let l : g.live < length g.spots = omega (arith, spare) in
-      let S = put_sound g.width g.height g.count g.shelves g.standing g.spots g.live (sound_of g) w h size.1 size.3 p ready_here (omega arith) (omega arith) spare l in
+      let S = put_sound g w h size.1 size.3 p ready_here (omega arith) (omega arith) spare l in
       rw (f, q, r) (record {
         sound = S;
-        adds = added_is g.width g.height g.count g.shelves shelves g.standing standing g.spots g.live (sound_of g) l (put_on i p w h) refl S;
-        image = live_here g.width g.height g.count g.shelves shelves g.standing standing g.spots g.live (sound_of g) l (put_on i p w h) refl S;
+        adds = added_is g shelves standing l (put_on i p w h) refl S;
+        image = live_here g shelves standing l (put_on i p w h) refl S;
         shelf = refl;
         stands = refl;
       })

@@ -9,7 +9,6 @@ use Rattle.shelf_cache.specs.Sound.{Sound, Lowered}
 use Rattle.shelf_cache.specs.Places.{cache_of, cache_of_shelves, Settled, left_of, eased}
 use Rattle.shelf_cache.proofs.Meanings.{removed_is}
 use Rattle.shelf_cache.proofs.Freeing.{some_here, left_sound, settled}
-use Rattle.shelf_cache.proofs.Whole.{sound_of}
 
 pub record Left (g : Shelves) (i : ℕ) (shelves : List Shelf) (standing : List ℕ) (spots : List Spot) : Type 0 where
   pub sound : Sound g.width g.height g.count shelves standing spots (g.live - 1)
@@ -28,7 +27,7 @@ module _ (g : Shelves) (i k : ℕ) (n : length g.spots ≡ 256) (m : length g.sh
   al = omega (arith, on_shelf g k kl)
 
   pub counted_here : 0 < (shelf_at g.shelves at).images
-  counted_here = some_here g.width g.height g.count g.shelves g.standing g.spots g.live (sound_of g) k n kl at refl al
+  counted_here = some_here g k n kl at refl al
 
   pub left : length g.standing ≡ 4 → (spots : List Spot) → spots ≡ left_of g.spots k → (z : Shelf) → z ≡ eased (shelf_at g.shelves at) → (r : ℕ)
       → Lowered (set g.shelves at z) (at / 16) (on_page g.standing (at / 16)) r → Left g i (set g.shelves at z) (set g.standing (at / 16) r) spots
@@ -38,11 +37,11 @@ module _ (g : Shelves) (i k : ℕ) (n : length g.spots ≡ 256) (m : length g.sh
       let U : Shelf → Type 0 = λ z. Lowered (set g.shelves at z) (at / 16) (on_page g.standing (at / 16)) r → Left g i (set g.shelves at z) (set g.standing (at / 16) r) (left_of g.spots k) in
       subst T (sym q) (subst U (sym f)
       (λ L.
-      let S = left_sound g.width g.height g.count g.shelves g.standing g.spots g.live (sound_of g) k n kl at refl al pl r L in
-      let s = settled g.width g.height g.count g.shelves g.standing g.spots g.live (sound_of g) k n kl at refl al pl r L in
+      let S = left_sound g k n kl at refl al pl r L in
+      let s = settled g k n kl at refl al pl r L in
       record {
         sound = S;
-        removes = removed_is g.width g.height g.count g.shelves (set g.shelves at (eased (shelf_at g.shelves at))) g.standing (set g.standing (at / 16) r) g.spots g.live (sound_of g) i k n kl e S;
+        removes = removed_is g (set g.shelves at (eased (shelf_at g.shelves at))) (set g.standing (at / 16) r) i k n kl e S;
         settles = λ j jl b.
             let only = g.single k j (record { one = omega (arith, g.few); other = omega (arith, g.few); same = e ∙ sym b }) in
             let P : ℕ → Type 0 = λ j. Settled g.shelves g.standing (spot_at g.spots j).shelf (set g.shelves at (eased (shelf_at g.shelves at))) (set g.standing (at / 16) r) (left_of g.spots k) (g.live - 1) in

@@ -6,4 +6,4 @@ use Rattle.shelf_cache.proofs.shelves.Shelves.place.Goals as goal
 pub returns-clause-fit : goal.returns-clause-fit
 returns-clause-fit c =
     let g = c.args.self.now in
-    fit_of g.width g.height g.count g.shelves g.standing g.live c.args.size.w c.args.size.h c.or_else.result (search rules)
+    fit_of g c.args.size.w c.args.size.h c.or_else.result (search rules)

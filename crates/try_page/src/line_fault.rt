@@ -1,7 +1,8 @@
 // Why a line cannot be read as a letter, with the field or the word at fault.
 use crate::field::{Field, Kind};
-use std::alloc::AllocFailed;
+use std::alloc::AllocError;
 use std::fmt;
+use std::str::Utf8Error;
 
 #[derive(Clone, Copy)]
 pub enum LineFault<'a> {
@@ -17,8 +18,14 @@ pub enum LineFault<'a> {
     Missing(Field),
 }
 
-impl<'a, T: Drop> From<AllocFailed<T>> for LineFault<'a> {
-    fn from(_e: AllocFailed<T>) -> LineFault<'a> {
+impl<'a> From<Utf8Error> for LineFault<'a> {
+    fn from(_e: Utf8Error) -> LineFault<'a> {
+        LineFault::NotText
+    }
+}
+
+impl<'a> From<AllocError> for LineFault<'a> {
+    fn from(_e: AllocError) -> LineFault<'a> {
         LineFault::NoMemory
     }
 }

@@ -14,5 +14,5 @@ returns c = record {
   of_area =
       c.unwrap_or.ensures
       ∙ ap (λ (x : Float). unwrap_or c.args.self.now.area (corner x c.from-2.result)) c.from.ensures
-      ∙ ap (λ (y : Float). unwrap_or c.args.self.now.area (corner (of_int binary64 (pos c.in_ok-width.width)) y)) c.from-2.ensures;
+      ∙ ap (λ (y : Float). unwrap_or c.args.self.now.area (corner (of_int binary64 (pos c.in_ok-pixmap.pixmap.width)) y)) c.from-2.ensures;
 }

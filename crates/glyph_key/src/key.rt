@@ -31,7 +31,7 @@ pub struct KeyParts {
 
 // Twelve fields, and the axis values of a variable font: how many there are, and a place for each of eight; a place that is not used is zero.
 // Keys come from this crate alone, so that this holds of every key and comparing all places compares the values.
-#[derive(Clone, Copy, PartialEq, Eq)]
+#[derive(Clone, Copy, PartialEq, Eq, Hash)]
 pub struct GlyphCacheKey {
     pub(crate) font_id: u64,
     pub(crate) font_index: u32,

@@ -18,19 +18,19 @@ pub enum LineFault<'a> {
     Missing(Field),
 }
 
-impl<'a> From<Utf8Error> for LineFault<'a> {
-    fn from(_e: Utf8Error) -> LineFault<'a> {
+impl From<Utf8Error> for LineFault<'_> {
+    fn from(_e: Utf8Error) -> Self {
         LineFault::NotText
     }
 }
 
-impl<'a> From<AllocError> for LineFault<'a> {
-    fn from(_e: AllocError) -> LineFault<'a> {
+impl From<AllocError> for LineFault<'_> {
+    fn from(_e: AllocError) -> Self {
         LineFault::NoMemory
     }
 }
 
-impl<'a> fmt::Display for LineFault<'a> {
+impl fmt::Display for LineFault<'_> {
     fn fmt<W: fmt::Write>(&self, f: &mut fmt::Formatter<W>) -> fmt::Result {
         match *self {
             LineFault::NotText => f.write_str("it is not UTF-8 text"),

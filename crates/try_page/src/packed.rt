@@ -15,7 +15,7 @@ struct Placed<'a> {
     answer: Result<Image, CacheFault>,
 }
 
-impl<'a> Placed<'a> {
+impl Placed<'_> {
     fn mark(&self) -> Option<Mark> {
         Some(Mark {
             image: self.answer.ok()?,
@@ -24,7 +24,7 @@ impl<'a> Placed<'a> {
     }
 }
 
-impl<'a> fmt::Display for Placed<'a> {
+impl fmt::Display for Placed<'_> {
     fn fmt<W: fmt::Write>(&self, f: &mut fmt::Formatter<W>) -> fmt::Result {
         let picture = self.picture;
         write!(f, "line {}: {}: ", picture.line, picture.name.as_str())?;
@@ -46,10 +46,10 @@ impl<'a> fmt::Display for Placed<'a> {
 }
 
 // Frees every other picture that has a place, and places each again at the end.
-fn place_again<'a, C: ImageCache>(
+fn place_again<C: ImageCache>(
     rt: &HostRuntime,
     cache: &mut C,
-    placed: &mut [Placed<'a>],
+    placed: &mut [Placed<'_>],
 ) -> io::Result<()> {
     for freed in placed.iter().step_by(2) {
         if let Ok(image) = freed.answer {

@@ -52,7 +52,7 @@ pub struct PageMap<'a> {
     pub size: Extent,
 }
 
-impl<'a> PageMap<'a> {
+impl PageMap<'_> {
     fn sign_at(&self, x: u32, y: u32) -> char {
         let page = self.page;
         self.marks

@@ -39,7 +39,7 @@ impl fmt::Display for KeyWords {
     }
 }
 
-impl<'a> fmt::Display for Report<'a> {
+impl fmt::Display for Report<'_> {
     fn fmt<W: fmt::Write>(&self, f: &mut fmt::Formatter<W>) -> fmt::Result {
         let letter = self.letter;
         let join = letter.parts.embolden.join;

@@ -86,7 +86,7 @@ impl Summary {
 
     // Whether a letter with that key is drawn from the atlas already.
     pub fn has_picture(&self, key: &GlyphCacheKey) -> bool
-        ensures { result ≡ known self.now.pictures.items.items key.now }
+        ensures { result ≡ known self.now.pictures.items key.now }
     {
         self.pictures.has(key)
     }

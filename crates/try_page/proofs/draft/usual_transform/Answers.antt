@@ -6,7 +6,3 @@ use Rattle.try_page.proofs.draft.usual_transform.Goals as goal
 pub returns-in-Outline : goal.returns-in-Outline
 unfolding of_bits
 returns-in-Outline c = ap usual_transform (sym c.in-Outline.is)
-
-pub returns-in-Bitmap : goal.returns-in-Bitmap
-unfolding of_bits
-returns-in-Bitmap c = ap usual_transform (sym c.in-Bitmap.is)

@@ -1,8 +1,8 @@
 -- Sets of keys, in which no key is the same as another. Assumes nothing.
 --     known s k        a key of the set is the same as k
 --     IsWith s k t     t has the keys of s, and k: one more, unless it is known
-use Rattle.std.specs.Prelude.{◌≡◌, ℕ, ◌+◌, Bool, true, cond}
-use Rattle.std.specs.HashSet.{HashSet, contains, hash_set_len, Updates}
+use Rattle.std.specs.Prelude.{◌≡◌, ◌+◌, Bool, true, cond}
+use Rattle.std.specs.HashSet.{HashSet, contains, hash_set_len}
 use Rattle.glyph_key.specs.declared.key.GlyphCacheKey.{GlyphCacheKey}
 use Rattle.glyph_key.specs.Keys.{same_key}
 

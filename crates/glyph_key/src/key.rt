@@ -1,6 +1,6 @@
 // Keys, and what goes into one.
 
-#[derive(Clone, Copy, PartialEq, Eq)]
+#[derive(Clone, Copy, PartialEq, Eq, Hash)]
 pub enum Join {
     Bevel,
     Miter,
@@ -30,7 +30,7 @@ pub struct KeyParts {
 }
 
 // The numbers of a key as f32 bit patterns.
-#[derive(Clone, Copy, PartialEq, Eq)]
+#[derive(Clone, Copy, PartialEq, Eq, Hash)]
 pub struct KeyBits {
     pub size: u32,
     pub embolden_x: u32,
@@ -42,7 +42,7 @@ pub struct KeyBits {
 pub(crate) const MOST_AXES: usize = 8;
 
 // The axis values of a variable font: how many there are, and a place for each of eight; a place that is not used is zero.
-#[derive(Clone, Copy, PartialEq, Eq)]
+#[derive(Clone, Copy, PartialEq, Eq, Hash)]
 pub(crate) struct Axes {
     pub(crate) count: u8,
     pub(crate) places: [i16; MOST_AXES],
@@ -50,7 +50,7 @@ pub(crate) struct Axes {
 
 // What has to agree for two glyphs to share a picture.
 // Keys come from this crate alone, so that the unused places of every key are zero and comparing all places compares the values.
-#[derive(Clone, Copy, PartialEq, Eq)]
+#[derive(Clone, Copy, PartialEq, Eq, Hash)]
 pub struct GlyphCacheKey {
     pub(crate) font_id: u64,
     pub(crate) font_index: u32,

@@ -57,7 +57,7 @@ abbrev pub whole : ℕ → ℕ → Rect
 whole w h = record { x0 = float_zero; y0 = float_zero; x1 = of_int binary64 (pos w); y1 = of_int binary64 (pos h) }
 
 pub record BitmapFrom (d : Draft) (b : GlyphBitmap) : Type 0 where
-  pub of_pixmap : d.pixmap ≡ Some (b.pixmap.width, b.pixmap.height)
+  pub of_pixmap : d.pixmap ≡ Some b.pixmap
   pub of_area : b.area ≡ unwrap_or d.area (whole b.pixmap.width b.pixmap.height)
 
 abbrev pub PictureFrom : Draft → Kind → Glyph → Type 0

@@ -1,11 +1,12 @@
 -- What a summary becomes with one more verdict. Counts stop at 2 ^ 64 - 1. Assumes nothing.
 --     slot_pixels m    the pixels of a picture's slot: one more on every side
 --     Added s v t      t is the summary s with the verdict v added
-use Rattle.std.specs.Prelude.{◌≡◌, ℕ, ◌+◌, ◌-◌, ◌*◌, ◌^◌, min, cond, List, [], Ok, Err, vec_items, Result}
+use Rattle.std.specs.Prelude.{◌≡◌, ℕ, ◌+◌, ◌-◌, ◌*◌, ◌^◌, min, cond, Ok, Err, Result}
+use Rattle.std.specs.HashSet.{HashSet, IsEmpty, IsUnchanged}
 use Rattle.glyph_key.specs.declared.key.GlyphCacheKey.{GlyphCacheKey}
 use Rattle.glyph_key.specs.declared.fault.KeyFault.TheVariants.{TooManyAxes, NotANumber}
 use Rattle.raster.specs.declared.glyph.RasterMetrics.{RasterMetrics}
-use Rattle.try_page.specs.Once.{known, with_key}
+use Rattle.try_page.specs.Once.{known, IsWith}
 use Rattle.try_page.specs.declared.verdict.Verdict.{Verdict}
 use Rattle.try_page.specs.declared.verdict.Verdict.TheVariants.{Atlas, Plain}
 use Rattle.try_page.specs.declared.verdict.LetterFault.{LetterFault}
@@ -30,23 +31,23 @@ plain_after n (Ok (Atlas k m)) = n
 plain_after n (Ok (Plain k)) = more n 1
 plain_after n (Err e) = n
 
--- the keys of letters that are not refused
-abbrev pub keys_after : List GlyphCacheKey → Result Verdict LetterFault → List GlyphCacheKey
-keys_after ks (Ok (Atlas k m)) = with_key ks k
-keys_after ks (Ok (Plain k)) = with_key ks k
-keys_after ks (Err e) = ks
+-- the keys of letters that are not refused, before and after
+abbrev pub KeysAfter : {S : Type 0} → HashSet GlyphCacheKey S → Result Verdict LetterFault → HashSet GlyphCacheKey S → Type 0
+KeysAfter s (Ok (Atlas k m)) t = IsWith s k t
+KeysAfter s (Ok (Plain k)) t = IsWith s k t
+KeysAfter s (Err e) t = IsUnchanged s t
 
 -- the keys that have a slot
-abbrev pub slots_after : List GlyphCacheKey → Result Verdict LetterFault → List GlyphCacheKey
-slots_after ks (Ok (Atlas k m)) = with_key ks k
-slots_after ks (Ok (Plain k)) = ks
-slots_after ks (Err e) = ks
+abbrev pub SlotsAfter : {S : Type 0} → HashSet GlyphCacheKey S → Result Verdict LetterFault → HashSet GlyphCacheKey S → Type 0
+SlotsAfter s (Ok (Atlas k m)) t = IsWith s k t
+SlotsAfter s (Ok (Plain k)) t = IsUnchanged s t
+SlotsAfter s (Err e) t = IsUnchanged s t
 
 -- a slot is counted for the first letter that has it
-abbrev pub pixels_after : ℕ → List GlyphCacheKey → Result Verdict LetterFault → ℕ
-pixels_after n ks (Ok (Atlas k m)) = cond (known ks k) n (more n (slot_pixels m))
-pixels_after n ks (Ok (Plain k)) = n
-pixels_after n ks (Err e) = n
+abbrev pub pixels_after : {S : Type 0} → ℕ → HashSet GlyphCacheKey S → Result Verdict LetterFault → ℕ
+pixels_after n s (Ok (Atlas k m)) = cond (known s k) n (more n (slot_pixels m))
+pixels_after n s (Ok (Plain k)) = n
+pixels_after n s (Err e) = n
 
 abbrev pub refusals_after : Refusals → Result Verdict LetterFault → Refusals
 refusals_after r (Ok v) = r
@@ -55,11 +56,11 @@ refusals_after r (Err e) = refused_more r e
 pub record Added (s : Summary) (v : Result Verdict LetterFault) (t : Summary) : Type 0 where
   pub of_letters : t.letters ≡ more s.letters 1
   pub of_plain : t.plain ≡ plain_after s.plain v
-  pub of_pixels : t.pixels ≡ pixels_after s.pixels (vec_items s.pictures.items) v
+  pub of_pixels : t.pixels ≡ pixels_after s.pixels s.pictures.items v
   pub of_unread : t.unread ≡ s.unread
   pub of_refusals : t.refusals ≡ refusals_after s.refusals v
-  pub of_keys : vec_items t.keys.items ≡ keys_after (vec_items s.keys.items) v
-  pub of_pictures : vec_items t.pictures.items ≡ slots_after (vec_items s.pictures.items) v
+  pub of_keys : KeysAfter s.keys.items v t.keys.items
+  pub of_pictures : SlotsAfter s.pictures.items v t.pictures.items
 
 -- nothing has been added
 pub record Blank (t : Summary) : Type 0 where
@@ -68,8 +69,8 @@ pub record Blank (t : Summary) : Type 0 where
   pub no_pixels : t.pixels ≡ 0
   pub no_unread : t.unread ≡ 0
   pub no_refusals : t.refusals ≡ record { not_finite = 0; too_many_axes = 0; not_a_number = 0; no_metrics = 0 }
-  pub no_keys : vec_items t.keys.items ≡ []
-  pub no_pictures : vec_items t.pictures.items ≡ []
+  pub no_keys : IsEmpty t.keys.items
+  pub no_pictures : IsEmpty t.pictures.items
 
 -- one more line that could not be read, and all else as it was
 pub record Unread (s t : Summary) : Type 0 where
@@ -78,5 +79,5 @@ pub record Unread (s t : Summary) : Type 0 where
   pub same_plain : t.plain ≡ s.plain
   pub same_pixels : t.pixels ≡ s.pixels
   pub same_refusals : t.refusals ≡ s.refusals
-  pub same_keys : vec_items t.keys.items ≡ vec_items s.keys.items
-  pub same_pictures : vec_items t.pictures.items ≡ vec_items s.pictures.items
+  pub same_keys : IsUnchanged s.keys.items t.keys.items
+  pub same_pictures : IsUnchanged s.pictures.items t.pictures.items

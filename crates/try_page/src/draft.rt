@@ -12,7 +12,7 @@ use raster::glyph::{Glyph, GlyphBitmap, GlyphOutline};
 use shapes::{Affine, Path, Pixmap, Rect};
 use std::alloc::Global;
 
-#[derive(Drop)]
+#[derive(Default, Drop)]
 pub struct Draft {
     font: Option<u64>,
     index: Option<u32>,
@@ -26,7 +26,7 @@ pub struct Draft {
     path: Option<u32>,
     bounds: Option<Rect>,
     scale: Option<f64>,
-    pixmap: Option<(u16, u16)>,
+    pixmap: Option<Pixmap>,
     area: Option<Rect>,
     transform: Option<Affine>,
 }
@@ -40,16 +40,6 @@ const NO_EMBOLDEN: FontEmbolden = FontEmbolden {
     tolerance: 0.1,
 };
 
-// The usual transform of an outline, which has y upward.
-const TURNED_OVER: Affine = Affine {
-    a: 1.0,
-    b: 0.0,
-    c: 0.0,
-    d: -1.0,
-    e: 0.0,
-    f: 0.0,
-};
-
 // The usual transform of a bitmap.
 const UPRIGHT: Affine = Affine {
     a: 1.0,
@@ -59,6 +49,18 @@ const UPRIGHT: Affine = Affine {
     e: 0.0,
     f: 0.0,
 };
+
+// The usual transform of an outline, which has y upward.
+const TURNED_OVER: Affine = Affine { d: -1.0, ..UPRIGHT };
+
+fn usual_transform(kind: Kind) -> Affine
+    ensures { result ≡ usual_transform kind }
+{
+    match kind {
+        Kind::Outline => TURNED_OVER,
+        Kind::Bitmap => UPRIGHT,
+    }
+}
 
 fn fill<'a, T: Drop>(place: &mut Option<T>, field: Field, value: T) -> Result<(), LineFault<'a>>
     ensures after { place.new ≡ Some value }
@@ -71,34 +73,16 @@ fn fill<'a, T: Drop>(place: &mut Option<T>, field: Field, value: T) -> Result<()
 }
 
 impl Draft {
-    fn new() -> Draft {
-        Draft {
-            font: None,
-            index: None,
-            glyph: None,
-            size: None,
-            at: None,
-            hinted: None,
-            color: None,
-            embolden: None,
-            axes: None,
-            path: None,
-            bounds: None,
-            scale: None,
-            pixmap: None,
-            area: None,
-            transform: None,
-        }
-    }
-
     pub fn read<'a>(
         heap: Global,
         kind: Kind,
         words: &mut Words<'a>,
     ) -> Result<Draft, LineFault<'a>> {
-        let mut draft = Draft::new();
+        let mut draft = Draft::default();
         while let Some(word) = words.next_word() {
-            let field = Field::named(word).ok_or(LineFault::UnknownField(word))?;
+            let field = word
+                .parse::<Field>()
+                .map_err(|_| LineFault::UnknownField(word))?;
             if !field.is_for(kind) {
                 return Err(LineFault::OtherKind(field, kind));
             }
@@ -117,19 +101,19 @@ impl Draft {
         ensures { OnOk result (left_of words.new ≤ left_of words.old) }
     {
         match field {
-            Field::Font => fill(&mut self.font, field, words.number(field)?),
-            Field::Index => fill(&mut self.index, field, words.number(field)?),
-            Field::Glyph => fill(&mut self.glyph, field, words.number(field)?),
-            Field::Size => fill(&mut self.size, field, words.number(field)?),
-            Field::At => fill(&mut self.at, field, words.number(field)?),
+            Field::Font => fill(&mut self.font, field, words.value(field)?),
+            Field::Index => fill(&mut self.index, field, words.value(field)?),
+            Field::Glyph => fill(&mut self.glyph, field, words.value(field)?),
+            Field::Size => fill(&mut self.size, field, words.value(field)?),
+            Field::At => fill(&mut self.at, field, words.value(field)?),
             Field::Hinted => fill(&mut self.hinted, field, true),
-            Field::Color => fill(&mut self.color, field, words.number(field)?),
+            Field::Color => fill(&mut self.color, field, words.value(field)?),
             Field::Embolden => fill(&mut self.embolden, field, words.embolden(field)?),
             Field::Axes => fill(&mut self.axes, field, words.axes(heap, field)?),
-            Field::Path => fill(&mut self.path, field, words.number(field)?),
+            Field::Path => fill(&mut self.path, field, words.value(field)?),
             Field::Bounds => fill(&mut self.bounds, field, words.rect(field)?),
-            Field::Scale => fill(&mut self.scale, field, words.number(field)?),
-            Field::Pixmap => fill(&mut self.pixmap, field, words.extent(field)?),
+            Field::Scale => fill(&mut self.scale, field, words.value(field)?),
+            Field::Pixmap => fill(&mut self.pixmap, field, words.pixmap(field)?),
             Field::Area => fill(&mut self.area, field, words.rect(field)?),
             Field::Transform => fill(&mut self.transform, field, words.affine(field)?),
         }
@@ -169,19 +153,15 @@ impl Draft {
     fn bitmap<'a>(&self) -> Result<GlyphBitmap, LineFault<'a>>
         ensures { IfOk result (λ b. BitmapFrom self.now b) }
     {
-        let (width, height) = self.pixmap.ok_or(LineFault::Missing(Field::Pixmap))?;
+        let pixmap = self.pixmap.ok_or(LineFault::Missing(Field::Pixmap))?;
         let whole = Rect {
             x0: 0.0,
             y0: 0.0,
-            x1: f64::from(width),
-            y1: f64::from(height),
+            x1: f64::from(pixmap.width),
+            y1: f64::from(pixmap.height),
         };
         Ok(GlyphBitmap {
-            pixmap: Pixmap {
-                handle: 0,
-                width,
-                height,
-            },
+            pixmap,
             area: self.area.unwrap_or(whole),
         })
     }
@@ -198,10 +178,7 @@ impl Draft {
     pub fn transform(&self, kind: Kind) -> Affine
         ensures { result ≡ unwrap_or self.now.transform (usual_transform kind) }
     {
-        match kind {
-            Kind::Outline => self.transform.unwrap_or(TURNED_OVER),
-            Kind::Bitmap => self.transform.unwrap_or(UPRIGHT),
-        }
+        self.transform.unwrap_or(usual_transform(kind))
     }
 
     pub fn fraction(&self) -> f32
@@ -213,6 +190,6 @@ impl Draft {
     pub fn into_axes(self, heap: Global) -> Vec<i16>
         ensures { result.items ≡ axes_from self }
     {
-        self.axes.unwrap_or(Vec::new(heap))
+        self.axes.unwrap_or_else(|| Vec::new(heap))
     }
 }

@@ -1,5 +1,5 @@
 // Why a page was not gone through to its end.
-use std::alloc::AllocError;
+use std::alloc::{AllocError, AllocFailed};
 use std::{fmt, io};
 
 #[derive(Drop)]
@@ -19,6 +19,12 @@ impl From<io::Error> for Failure {
 impl From<AllocError> for Failure {
     fn from(error: AllocError) -> Failure {
         Failure::Stopped(io::Error::from(error))
+    }
+}
+
+impl<T: Drop> From<AllocFailed<T>> for Failure {
+    fn from(error: AllocFailed<T>) -> Failure {
+        Failure::from(AllocError::from(error))
     }
 }
 

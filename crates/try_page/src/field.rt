@@ -1,5 +1,6 @@
 // The two kinds of letter, and the fields that a line gives one.
 use std::fmt;
+use std::str::FromStr;
 
 #[derive(Clone, Copy, PartialEq, Eq)]
 pub enum Kind {
@@ -7,7 +8,7 @@ pub enum Kind {
     Bitmap,
 }
 
-#[derive(Clone, Copy)]
+#[derive(Clone, Copy, PartialEq, Eq)]
 pub enum Field {
     Font,
     Index,
@@ -26,47 +27,51 @@ pub enum Field {
     Transform,
 }
 
-impl Kind {
-    pub fn named(word: &str) -> Option<Kind> {
-        match word {
-            "outline" => Some(Kind::Outline),
-            "bitmap" => Some(Kind::Bitmap),
-            _ => None,
-        }
-    }
+// A word that names none of them.
+#[derive(Clone, Copy)]
+pub struct UnknownName;
 
-    pub fn name(self) -> &'static str {
-        match self {
-            Kind::Outline => "outline",
-            Kind::Bitmap => "bitmap",
+impl FromStr for Kind {
+    type Err = UnknownName;
+
+    fn from_str(word: &str) -> Result<Kind, UnknownName> {
+        match word {
+            "outline" => Ok(Kind::Outline),
+            "bitmap" => Ok(Kind::Bitmap),
+            _ => Err(UnknownName),
         }
     }
 }
 
-impl Field {
-    pub fn named(word: &str) -> Option<Field> {
-        let field = match word {
-            "font" => Field::Font,
-            "index" => Field::Index,
-            "glyph" => Field::Glyph,
-            "size" => Field::Size,
-            "at" => Field::At,
-            "hinted" => Field::Hinted,
-            "color" => Field::Color,
-            "embolden" => Field::Embolden,
-            "axes" => Field::Axes,
-            "path" => Field::Path,
-            "box" => Field::Bounds,
-            "scale" => Field::Scale,
-            "pixmap" => Field::Pixmap,
-            "area" => Field::Area,
-            "transform" => Field::Transform,
-            _ => return None,
-        };
-        Some(field)
+impl fmt::Display for Kind {
+    fn fmt<W: fmt::Write>(&self, f: &mut fmt::Formatter<W>) -> fmt::Result {
+        f.write_str(match self {
+            Kind::Outline => "outline",
+            Kind::Bitmap => "bitmap",
+        })
     }
+}
 
-    pub fn name(self) -> &'static str {
+impl Field {
+    const ALL: [Field; 15] = [
+        Field::Font,
+        Field::Index,
+        Field::Glyph,
+        Field::Size,
+        Field::At,
+        Field::Hinted,
+        Field::Color,
+        Field::Embolden,
+        Field::Axes,
+        Field::Path,
+        Field::Bounds,
+        Field::Scale,
+        Field::Pixmap,
+        Field::Area,
+        Field::Transform,
+    ];
+
+    fn name(self) -> &'static str {
         match self {
             Field::Font => "font",
             Field::Index => "index",
@@ -96,9 +101,12 @@ impl Field {
     }
 }
 
-impl fmt::Display for Kind {
-    fn fmt<W: fmt::Write>(&self, f: &mut fmt::Formatter<W>) -> fmt::Result {
-        f.write_str(self.name())
+impl FromStr for Field {
+    type Err = UnknownName;
+
+    fn from_str(word: &str) -> Result<Field, UnknownName> {
+        let found = Field::ALL.iter().find(|field| field.name() == word);
+        found.copied().ok_or(UnknownName)
     }
 }
 

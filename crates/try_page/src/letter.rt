@@ -26,14 +26,13 @@ pub struct Letter<'a> {
 impl<'a> Letter<'a> {
     // A line with no words but a comment has no letter.
     pub fn read(heap: Global, line: &'a [u8]) -> Result<Option<Letter<'a>>, LineFault<'a>> {
-        let Ok(text) = from_utf8(line) else {
-            return Err(LineFault::NotText);
-        };
-        let mut words = Words::of(text);
+        let mut words = Words::of(from_utf8(line)?);
         let Some(word) = words.next_word() else {
             return Ok(None);
         };
-        let kind = Kind::named(word).ok_or(LineFault::UnknownKind(word))?;
+        let kind = word
+            .parse::<Kind>()
+            .map_err(|_| LineFault::UnknownKind(word))?;
         let name = words.next_word().ok_or(LineFault::NoName)?;
         let draft = Draft::read(heap, kind, &mut words)?;
         Ok(Some(Letter {

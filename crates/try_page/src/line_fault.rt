@@ -1,7 +1,8 @@
 // Why a line cannot be read as a letter, with the field or the word at fault.
 use crate::field::{Field, Kind};
-use std::alloc::AllocFailed;
+use std::alloc::AllocError;
 use std::fmt;
+use std::str::Utf8Error;
 
 #[derive(Clone, Copy)]
 pub enum LineFault<'a> {
@@ -17,13 +18,19 @@ pub enum LineFault<'a> {
     Missing(Field),
 }
 
-impl<'a, T: Drop> From<AllocFailed<T>> for LineFault<'a> {
-    fn from(_e: AllocFailed<T>) -> LineFault<'a> {
+impl From<Utf8Error> for LineFault<'_> {
+    fn from(_e: Utf8Error) -> Self {
+        LineFault::NotText
+    }
+}
+
+impl From<AllocError> for LineFault<'_> {
+    fn from(_e: AllocError) -> Self {
         LineFault::NoMemory
     }
 }
 
-impl<'a> fmt::Display for LineFault<'a> {
+impl fmt::Display for LineFault<'_> {
     fn fmt<W: fmt::Write>(&self, f: &mut fmt::Formatter<W>) -> fmt::Result {
         match *self {
             LineFault::NotText => f.write_str("it is not UTF-8 text"),

@@ -5,6 +5,7 @@ mod choice;
 mod draft;
 mod failure;
 mod field;
+mod join;
 mod key_set;
 mod letter;
 mod line_fault;
@@ -12,6 +13,7 @@ mod packed;
 mod page;
 mod page_map;
 mod picture;
+mod refused;
 mod report;
 mod summary;
 mod verdict;
@@ -22,57 +24,52 @@ use crate::failure::Failure;
 use crate::packed::pack;
 use crate::page::try_page;
 use crate::picture::Picture;
+use crate::refused::Refused;
 use grid_cache::grid::Grid;
+use image_cache::cache::ImageCache;
 use image_cache::fault::CacheFault;
 use shelf_cache::shelves::Shelves;
-use shapes::refusal::Refusal;
 use std::fs::File;
 use std::process::ExitCode;
 use std::{env, fs, io};
 
 fn open(rt: &HostRuntime, path: String) -> Result<File, Failure> {
-    match fs::open(rt, path.as_str()) {
-        Ok(page) => Ok(page),
-        Err(error) => Err(Failure::Open(path, error)),
+    fs::open(rt, path.as_str()).map_err(|error| Failure::Open(path, error))
+}
+
+// Packs the pictures onto the new cache, or says why there is none.
+fn pack_onto<C: ImageCache + Drop>(
+    rt: &HostRuntime,
+    cache: Result<C, CacheFault>,
+    pictures: &[Picture],
+) -> io::Result<()> {
+    match cache {
+        Ok(mut cache) => pack(rt, &mut cache, pictures),
+        Err(fault) => rt.println(Refused(fault)),
     }
 }
 
-fn refused(rt: &HostRuntime, fault: CacheFault) -> io::Result<()> {
-    let number = fault.number();
-    println!(rt; "refused {number}: {fault}")
-}
-
-// Packs the pictures onto a new cache of that kind, or says why there is none.
-fn pack_onto(rt: &HostRuntime, choice: CacheChoice, pictures: &[Picture]) -> io::Result<()> {
+fn pack_as(rt: &HostRuntime, choice: CacheChoice, pictures: &[Picture]) -> io::Result<()> {
     println!(rt; "{choice}")?;
     match choice {
-        CacheChoice::Shelf(width, height, pages) => match Shelves::new(width, height, pages) {
-            Ok(mut cache) => pack(rt, &mut cache, pictures),
-            Err(fault) => refused(rt, fault),
-        },
-        CacheChoice::Grid(side, pages) => match Grid::new(side, pages) {
-            Ok(mut cache) => pack(rt, &mut cache, pictures),
-            Err(fault) => refused(rt, fault),
-        },
+        CacheChoice::Shelf {
+            width,
+            height,
+            pages,
+        } => pack_onto(rt, Shelves::new(width, height, pages), pictures),
+        CacheChoice::Grid { side, pages } => pack_onto(rt, Grid::new(side, pages), pictures),
     }
 }
 
 fn run(rt: &HostRuntime) -> Result<(), Failure> {
-    let mut args = match env::args(rt) {
-        Ok(args) => args,
-        Err(error) => return Err(Failure::Arguments(error)),
-    };
-    let _program = args.next();
+    let mut args = env::args(rt).map_err(Failure::Arguments)?.skip(1);
     let page = match args.next() {
         Some(path) => try_page(rt, open(rt, path)?)?,
         None => try_page(rt, rt.stdin())?,
     };
     let words: Vec<String> = args.collect(rt.alloc())?;
-    let Some(choices) = CacheChoice::read_all(rt.alloc(), words.as_slice())? else {
-        return Err(Failure::Cache);
-    };
-    for choice in choices.iter() {
-        pack_onto(rt, *choice, page.pictures.as_slice())?;
+    for choice in CacheChoice::read_all(rt.alloc(), words.as_slice())?.iter() {
+        pack_as(rt, *choice, page.pictures.as_slice())?;
     }
     Ok(())
 }

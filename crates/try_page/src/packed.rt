@@ -1,104 +1,74 @@
 // Packing a page's pictures onto an image cache of any kind: place all, free every other one, place those again.
-use crate::page_map::{Mark, PageSize, row_of, rows, share, used_pixels};
+use crate::page_map::{Mark, PageMap, ROWS};
 use crate::picture::Picture;
+use crate::refused::Refused;
 use image_cache::cache::ImageCache;
 use image_cache::fault::CacheFault;
 use image_cache::image::Image;
 use packing::place::{Extent, place, place_all};
-use shapes::refusal::Refusal;
-use std::alloc::{AllocError, Global};
-use std::io;
+use std::{fmt, io};
 
-type Answers = Vec<Result<Image, CacheFault>>;
-
-fn extents_of(heap: Global, pictures: &[Picture]) -> Result<Vec<Extent>, AllocError> {
-    let mut extents = Vec::new(heap);
-    for picture in pictures {
-        extents.push(picture.extent)?;
-    }
-    Ok(extents)
-}
-
-fn print_place(
-    rt: &HostRuntime,
-    picture: &Picture,
+// A picture, and the place that the cache gave it.
+#[derive(Clone, Copy)]
+struct Placed<'a> {
+    picture: &'a Picture,
     answer: Result<Image, CacheFault>,
-) -> io::Result<()> {
-    let line = picture.line;
-    let name = picture.name.as_str();
-    match answer {
-        Ok(image) => {
-            let page = image.page;
-            let x = image.x;
-            let y = image.y;
-            let w = image.w;
-            let h = image.h;
-            println!(rt; "line {line}: {name}: page {page}, at {x} {y}, {w} x {h}")
-        }
-        Err(fault) => {
-            let number = fault.number();
-            println!(rt; "line {line}: {name}: refused {number}: {fault}")
-        }
+}
+
+impl Placed<'_> {
+    fn mark(&self) -> Option<Mark> {
+        Some(Mark {
+            image: self.answer.ok()?,
+            sign: self.picture.sign(),
+        })
     }
 }
 
-fn print_places(rt: &HostRuntime, pictures: &[Picture], answers: &Answers) -> io::Result<()> {
-    for (picture, answer) in pictures.iter().zip(answers.iter()) {
-        print_place(rt, picture, *answer)?;
+impl fmt::Display for Placed<'_> {
+    fn fmt<W: fmt::Write>(&self, f: &mut fmt::Formatter<W>) -> fmt::Result {
+        let picture = self.picture;
+        write!(f, "line {}: {}: ", picture.line, picture.name.as_str())?;
+        match self.answer {
+            Ok(image) => {
+                let Image {
+                    page,
+                    x,
+                    y,
+                    w,
+                    h,
+                    ..
+                } = image;
+                write!(f, "page {page}, at {x} {y}, {w} x {h}")
+            }
+            Err(fault) => write!(f, "{}", Refused(fault)),
+        }
     }
-    Ok(())
 }
 
 // Frees every other picture that has a place, and places each again at the end.
-fn again<C: ImageCache>(
+fn place_again<C: ImageCache>(
     rt: &HostRuntime,
     cache: &mut C,
-    pictures: &[Picture],
-    answers: &mut Answers,
+    placed: &mut [Placed<'_>],
 ) -> io::Result<()> {
-    for (i, _) in pictures.iter().enumerate() {
-        if i % 2 == 0 {
-            if let Some(Ok(image)) = answers.get(i).copied() {
-                let _ = cache.free(image.id);
-            }
+    for freed in placed.iter().step_by(2) {
+        if let Ok(image) = freed.answer {
+            let _ = cache.free(image.id);
         }
     }
-    for (i, picture) in pictures.iter().enumerate() {
-        if i % 2 == 0 {
-            let answer = place(cache, picture.extent.w, picture.extent.h);
-            print_place(rt, picture, answer)?;
-            if i < answers.len() {
-                answers[i] = answer;
-            }
-        }
+    for again in placed.iter_mut().step_by(2) {
+        let size = again.picture.extent;
+        again.answer = place(cache, size.w, size.h);
+        rt.println(&*again)?;
     }
     Ok(())
 }
 
-fn marks_of(
-    heap: Global,
-    pictures: &[Picture],
-    answers: &Answers,
-) -> Result<Vec<Mark>, AllocError> {
-    let mut marks = Vec::new(heap);
-    for (picture, answer) in pictures.iter().zip(answers.iter()) {
-        if let Ok(image) = *answer {
-            marks.push(Mark {
-                image,
-                sign: picture.mark(),
-            })?;
-        }
-    }
-    Ok(marks)
-}
-
-fn print_map(rt: &HostRuntime, marks: &[Mark], page: u32, size: PageSize) -> io::Result<()> {
-    let tenths = share(used_pixels(marks, page), size);
-    let percent = tenths / 10;
-    let tenth = tenths % 10;
-    println!(rt; "page {page}: {percent}.{tenth} % used")?;
-    for row in 0..rows() {
-        rt.println(row_of(rt.alloc(), marks, page, size, row)?)?;
+fn print_map(rt: &HostRuntime, map: PageMap<'_>) -> io::Result<()> {
+    let tenths = map.share();
+    println!(rt; "page {}: {}.{} % used", map.page, tenths / 10, tenths % 10)?;
+    for row in 0..ROWS {
+        rt.println(map.row(rt.alloc(), row)?)?;
     }
     Ok(())
 }
@@ -109,18 +79,26 @@ pub fn pack<C: ImageCache>(
     pictures: &[Picture],
 ) -> io::Result<()> {
     let heap = rt.alloc();
-    let extents = extents_of(heap, pictures)?;
-    let mut answers = place_all(heap, cache, extents.as_slice())?;
-    print_places(rt, pictures, &answers)?;
+    let extents: Vec<Extent> = pictures.iter().map(|picture| picture.extent).collect(heap)?;
+    let answers = place_all(heap, cache, extents.as_slice())?;
+    let mut placed: Vec<Placed<'_>> = pictures
+        .iter()
+        .zip(answers.iter().copied())
+        .map(|(picture, answer)| Placed { picture, answer })
+        .collect(heap)?;
+    for one in placed.iter() {
+        rt.println(one)?;
+    }
     println!(rt; "every other one freed, and placed again")?;
-    again(rt, cache, pictures, &mut answers)?;
-    let marks = marks_of(heap, pictures, &answers)?;
-    let size = PageSize {
-        width: cache.page_width(),
-        height: cache.page_height(),
+    place_again(rt, cache, placed.as_mut_slice())?;
+    let marks: Vec<Mark> = placed.iter().filter_map(|one| one.mark()).collect(heap)?;
+    let size = Extent {
+        w: cache.page_width(),
+        h: cache.page_height(),
     };
     for page in 0..cache.page_count() {
-        print_map(rt, marks.as_slice(), page, size)?;
+        let marks = marks.as_slice();
+        print_map(rt, PageMap { marks, page, size })?;
     }
     Ok(())
 }

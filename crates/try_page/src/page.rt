@@ -3,7 +3,7 @@ use crate::letter::Letter;
 use crate::picture::Picture;
 use crate::report::Report;
 use crate::summary::Summary;
-use crate::verdict::{LetterFault, Verdict};
+use crate::verdict::Verdict;
 use std::alloc::{AllocError, Global};
 use std::io;
 use std::io::{BufRead, BufReader, Read};
@@ -16,35 +16,34 @@ pub struct Page {
 }
 
 impl Page {
-    fn add(
-        &mut self,
-        heap: Global,
-        letter: &Letter<'_>,
-        number: u64,
-        verdict: Result<Verdict, LetterFault>,
-    ) -> Result<(), AllocError> {
-        if let Ok(Verdict::Atlas(key, metrics)) = verdict {
-            if !self.summary.has_picture(&key) {
-                let picture = Picture::new(heap, letter.name, number, metrics)?;
-                self.pictures.push(picture)?;
-            }
+    fn new(heap: Global) -> Page {
+        Page {
+            summary: Summary::new(heap),
+            pictures: Vec::new(heap),
         }
-        self.summary.add(verdict)
+    }
+
+    fn add(&mut self, heap: Global, report: Report<'_>) -> Result<(), AllocError> {
+        if let Ok(Verdict::Atlas(key, metrics)) = report.verdict
+            && !self.summary.has_picture(&key)
+        {
+            let picture = Picture::new(heap, report.letter.name, report.line, metrics)?;
+            self.pictures.push(picture)?;
+        }
+        self.summary.add(report.verdict)
     }
 }
 
 fn try_line(rt: &HostRuntime, page: &mut Page, number: u64, line: &[u8]) -> io::Result<()> {
     match Letter::read(rt.alloc(), line) {
         Ok(Some(letter)) => {
-            let verdict = letter.verdict();
-            page.add(rt.alloc(), &letter, number, verdict)?;
-            rt.println(Report {
+            let report = Report {
                 line: number,
-                kind: letter.kind(),
-                name: letter.name,
-                join: letter.parts.embolden.join,
-                verdict,
-            })
+                letter: &letter,
+                verdict: letter.verdict(),
+            };
+            page.add(rt.alloc(), report)?;
+            rt.println(report)
         }
         Ok(None) => Ok(()),
         Err(fault) => {
@@ -55,15 +54,10 @@ fn try_line(rt: &HostRuntime, page: &mut Page, number: u64, line: &[u8]) -> io::
 }
 
 pub fn try_page<R: Read + Drop>(rt: &HostRuntime, source: R) -> io::Result<Page> {
-    let mut page = Page {
-        summary: Summary::new(rt.alloc()),
-        pictures: Vec::new(rt.alloc()),
-    };
-    let mut number = 0u64;
-    for line in BufReader::new(rt.alloc(), source)?.split(rt.alloc(), b'\n') {
-        number = number.saturating_add(1);
-        let bytes = line?;
-        try_line(rt, &mut page, number, bytes.as_slice())?;
+    let mut page = Page::new(rt.alloc());
+    let lines = BufReader::new(rt.alloc(), source)?.split(rt.alloc(), b'\n');
+    for (number, line) in (1..).zip(lines) {
+        try_line(rt, &mut page, number, line?.as_slice())?;
     }
     rt.println(&page.summary)?;
     Ok(page)

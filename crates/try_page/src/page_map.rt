@@ -3,18 +3,13 @@ ghost use Rattle.std.specs.Prelude.{◌≡◌};
 ghost use Rattle.try_page.specs.Spot.{covers};
 
 use image_cache::image::Image;
+use packing::place::Extent;
 use std::alloc::{AllocError, Global};
 
 // Characters of a map, across and down: two to one, as characters stand.
 const COLUMNS: u32 = 64;
 
-const ROWS: u32 = 32;
-
-#[derive(Clone, Copy)]
-pub struct PageSize {
-    pub width: u16,
-    pub height: u16,
-}
+pub const ROWS: u32 = 32;
 
 // An image that a page shows, and the character for it.
 #[derive(Clone, Copy)]
@@ -36,13 +31,10 @@ fn is_over(image: Image, page: u32, x: u32, y: u32) -> bool
         & (y < top + u32::from(image.h))
 }
 
-fn sign_at(marks: &[Mark], page: u32, x: u32, y: u32) -> char {
-    for mark in marks {
-        if is_over(mark.image, page, x, y) {
-            return mark.sign;
-        }
+impl Mark {
+    fn pixels(&self) -> u64 {
+        u64::from(self.image.w) * u64::from(self.image.h)
     }
-    '.'
 }
 
 // The pixel in the middle of a cell of the raster.
@@ -52,38 +44,42 @@ fn middle(cell: u32, cells: u32, size: u16) -> u32 {
     u32::try_from(pixel).unwrap_or(0)
 }
 
-pub fn row_of(
-    heap: Global,
-    marks: &[Mark],
-    page: u32,
-    size: PageSize,
-    row: u32,
-) -> Result<String, AllocError> {
-    let mut text = String::new(heap);
-    let y = middle(row, ROWS, size.height);
-    for column in 0..COLUMNS {
-        text.push(sign_at(marks, page, middle(column, COLUMNS, size.width), y))?;
+// One page of those that the marks are on.
+#[derive(Clone, Copy)]
+pub struct PageMap<'a> {
+    pub marks: &'a [Mark],
+    pub page: u32,
+    pub size: Extent,
+}
+
+impl PageMap<'_> {
+    fn sign_at(&self, x: u32, y: u32) -> char {
+        let page = self.page;
+        self.marks
+            .iter()
+            .find(|mark| is_over(mark.image, page, x, y))
+            .map_or('.', |mark| mark.sign)
     }
-    Ok(text)
-}
 
-pub fn rows() -> u32 {
-    ROWS
-}
-
-// The pixels of the page's images.
-pub fn used_pixels(marks: &[Mark], page: u32) -> u64 {
-    let mut used = 0u64;
-    for mark in marks {
-        if mark.image.page == page {
-            used = used.saturating_add(u64::from(mark.image.w) * u64::from(mark.image.h));
-        }
+    pub fn row(&self, heap: Global, row: u32) -> Result<String, AllocError> {
+        let y = middle(row, ROWS, self.size.h);
+        (0..COLUMNS)
+            .map(|column| self.sign_at(middle(column, COLUMNS, self.size.w), y))
+            .collect(heap)
     }
-    used
-}
 
-// In tenths of a percent.
-pub fn share(used: u64, size: PageSize) -> u64 {
-    let all = u64::from(size.width) * u64::from(size.height);
-    used.saturating_mul(1000) / all.max(1)
+    // The pixels of the page's images.
+    fn used_pixels(&self) -> u64 {
+        let page = self.page;
+        self.marks
+            .iter()
+            .filter(|mark| mark.image.page == page)
+            .fold(0u64, |used, mark| used.saturating_add(mark.pixels()))
+    }
+
+    // The share of the page that is used, in tenths of a percent.
+    pub fn share(&self) -> u64 {
+        let all = u64::from(self.size.w) * u64::from(self.size.h);
+        self.used_pixels().saturating_mul(1000) / all.max(1)
+    }
 }

@@ -4,7 +4,7 @@ use raster::glyph::RasterMetrics;
 use std::alloc::{AllocError, Global};
 
 // One pixel of padding on either side.
-const PADDING: u16 = 2;
+pub const PADDING: u16 = 2;
 
 #[derive(Drop)]
 pub struct Picture {
@@ -31,7 +31,7 @@ impl Picture {
     }
 
     // The character that stands for the picture on a map.
-    pub fn mark(&self) -> char {
+    pub fn sign(&self) -> char {
         self.name.as_str().chars().next().unwrap_or('?')
     }
 }

@@ -1,16 +1,16 @@
 // The line that is printed for a letter.
-use crate::field::Kind;
+use crate::join::JoinName;
+use crate::letter::Letter;
+use crate::refused::Refused;
 use crate::verdict::{LetterFault, Verdict};
-use glyph_key::key::{GlyphCacheKey, Join};
-use shapes::refusal::Refusal;
+use glyph_key::key::{GlyphCacheKey, Join, KeyBits};
+use raster::glyph::RasterMetrics;
 use std::fmt;
 
-#[derive(Drop)]
+#[derive(Clone, Copy)]
 pub struct Report<'a> {
     pub line: u64,
-    pub kind: Kind,
-    pub name: &'a str,
-    pub join: Join,
+    pub letter: &'a Letter<'a>,
     pub verdict: Result<Verdict, LetterFault>,
 }
 
@@ -21,62 +21,45 @@ struct KeyWords {
     join: Join,
 }
 
-fn join_name(join: Join) -> &'static str {
-    match join {
-        Join::Bevel => "bevel",
-        Join::Miter => "miter",
-        Join::Round => "round",
-    }
-}
-
 impl fmt::Display for KeyWords {
     fn fmt<W: fmt::Write>(&self, f: &mut fmt::Formatter<W>) -> fmt::Result {
-        let bucket = self.key.bucket();
-        let bits = self.key.bits();
-        let size = bits.size;
-        let x = bits.embolden_x;
-        let y = bits.embolden_y;
-        let join = join_name(self.join);
-        let limit = bits.miter_limit;
-        let tolerance = bits.tolerance;
-        write!(f, "bucket {bucket}, size {size:08X}, ")?;
+        let KeyBits {
+            size,
+            embolden_x,
+            embolden_y,
+            miter_limit,
+            tolerance,
+        } = self.key.bits();
+        let join = JoinName(self.join);
         write!(
             f,
-            "embolden {x:08X} {y:08X} {join} {limit:08X} tolerance {tolerance:08X}"
+            "bucket {}, size {size:08X}, embolden {embolden_x:08X} {embolden_y:08X} {join} {miter_limit:08X} tolerance {tolerance:08X}",
+            self.key.bucket()
         )
     }
 }
 
-impl<'a> fmt::Display for Report<'a> {
+impl fmt::Display for Report<'_> {
     fn fmt<W: fmt::Write>(&self, f: &mut fmt::Formatter<W>) -> fmt::Result {
-        let line = self.line;
-        let kind = self.kind;
-        let name = self.name;
-        let join = self.join;
-        write!(f, "line {line}: {kind} {name}: ")?;
+        let letter = self.letter;
+        let join = letter.parts.embolden.join;
+        write!(f, "line {}: {} {}: ", self.line, letter.kind(), letter.name)?;
         match self.verdict {
             Ok(Verdict::Atlas(key, metrics)) => {
-                let words = KeyWords { key, join };
-                let width = metrics.width;
-                let height = metrics.height;
-                let left = metrics.left;
-                let top = metrics.top;
-                write!(
-                    f,
-                    "{words}; atlas; slot {width} x {height}, bearings {left} {top}"
-                )
+                let RasterMetrics {
+                    width,
+                    height,
+                    left,
+                    top,
+                } = metrics;
+                write!(f, "{}; atlas; ", KeyWords { key, join })?;
+                write!(f, "slot {width} x {height}, bearings {left} {top}")
             }
             Ok(Verdict::Plain(key)) => {
-                let words = KeyWords { key, join };
-                write!(
-                    f,
-                    "{words}; plain: its transform is skewed, scaled or mirrored"
-                )
+                write!(f, "{}; plain: ", KeyWords { key, join })?;
+                f.write_str("its transform is skewed, scaled or mirrored")
             }
-            Err(fault) => {
-                let number = fault.number();
-                write!(f, "refused {number}: {fault}")
-            }
+            Err(fault) => write!(f, "{}", Refused(fault)),
         }
     }
 }

@@ -4,6 +4,7 @@ ghost use Rattle.try_page.specs.Once.{known};
 ghost use Rattle.try_page.specs.Tally.{slot_pixels, refused_more, Added, Blank, Unread};
 
 use crate::key_set::KeySet;
+use crate::picture::PADDING;
 use crate::verdict::{LetterFault, Verdict};
 use glyph_key::fault::KeyFault;
 use glyph_key::key::GlyphCacheKey;
@@ -14,7 +15,7 @@ use std::alloc::{AllocError, Global};
 use std::fmt;
 
 // How many letters were refused, by reason.
-#[derive(Clone, Copy)]
+#[derive(Clone, Copy, Default)]
 pub struct Refusals {
     not_finite: u64,
     too_many_axes: u64,
@@ -34,13 +35,11 @@ pub struct Summary {
     pictures: KeySet,
 }
 
-// A picture has one pixel of padding on every side.
-const PADDING: u64 = 2;
-
 fn slot_pixels(metrics: RasterMetrics) -> u64
     ensures { result ≡ slot_pixels metrics }
 {
-    (u64::from(metrics.width) + PADDING) * (u64::from(metrics.height) + PADDING)
+    let padding = u64::from(PADDING);
+    (u64::from(metrics.width) + padding) * (u64::from(metrics.height) + padding)
 }
 
 impl Refusals {
@@ -58,6 +57,16 @@ impl Refusals {
             LetterFault::Raster(_) => self.no_metrics = self.no_metrics.saturating_add(1),
         }
     }
+
+    // Each reason and its count, in the order in which they are printed.
+    fn by_reason(self) -> [(LetterFault, u64); 4] {
+        [
+            (LetterFault::NotFinite, self.not_finite),
+            (LetterFault::Key(KeyFault::TooManyAxes), self.too_many_axes),
+            (LetterFault::Key(KeyFault::NotANumber), self.not_a_number),
+            (LetterFault::Raster(RasterFault::Metrics), self.no_metrics),
+        ]
+    }
 }
 
 impl Summary {
@@ -69,12 +78,7 @@ impl Summary {
             plain: 0,
             pixels: 0,
             unread: 0,
-            refusals: Refusals {
-                not_finite: 0,
-                too_many_axes: 0,
-                not_a_number: 0,
-                no_metrics: 0,
-            },
+            refusals: Refusals::default(),
             keys: KeySet::new(heap),
             pictures: KeySet::new(heap),
         }
@@ -82,7 +86,7 @@ impl Summary {
 
     // Whether a letter with that key is drawn from the atlas already.
     pub fn has_picture(&self, key: &GlyphCacheKey) -> bool
-        ensures { result ≡ known self.now.pictures.items.items key.now }
+        ensures { result ≡ known self.now.pictures.items key.now }
     {
         self.pictures.has(key)
     }
@@ -114,45 +118,17 @@ impl Summary {
     }
 }
 
-fn write_refusal<W: fmt::Write>(
-    f: &mut fmt::Formatter<W>,
-    fault: LetterFault,
-    count: u64,
-) -> fmt::Result {
-    if count == 0 {
-        return Ok(());
-    }
-    let number = fault.number();
-    writeln!(f, "refused {number}: {count}")
-}
-
 impl fmt::Display for Summary {
     fn fmt<W: fmt::Write>(&self, f: &mut fmt::Formatter<W>) -> fmt::Result {
-        let letters = self.letters;
-        let distinct = self.keys.len();
-        let plain = self.plain;
-        let pixels = self.pixels;
-        let unread = self.unread;
-        writeln!(f, "letters: {letters}")?;
-        writeln!(f, "distinct keys: {distinct}")?;
-        writeln!(f, "plain letters: {plain}")?;
-        writeln!(f, "pixels wanted: {pixels}")?;
-        write_refusal(f, LetterFault::NotFinite, self.refusals.not_finite)?;
-        write_refusal(
-            f,
-            LetterFault::Key(KeyFault::TooManyAxes),
-            self.refusals.too_many_axes,
-        )?;
-        write_refusal(
-            f,
-            LetterFault::Key(KeyFault::NotANumber),
-            self.refusals.not_a_number,
-        )?;
-        write_refusal(
-            f,
-            LetterFault::Raster(RasterFault::Metrics),
-            self.refusals.no_metrics,
-        )?;
-        write!(f, "lines not read: {unread}")
+        writeln!(f, "letters: {}", self.letters)?;
+        writeln!(f, "distinct keys: {}", self.keys.len())?;
+        writeln!(f, "plain letters: {}", self.plain)?;
+        writeln!(f, "pixels wanted: {}", self.pixels)?;
+        for (fault, count) in self.refusals.by_reason() {
+            if count > 0 {
+                writeln!(f, "refused {}: {count}", fault.number())?;
+            }
+        }
+        write!(f, "lines not read: {}", self.unread)
     }
 }

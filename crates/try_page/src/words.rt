@@ -1,11 +1,12 @@
 // The words of a line, and the values that fields have.
-ghost use Rattle.std.specs.Prelude.{◌<◌, OnOk, OnSome};
+ghost use Rattle.std.specs.Prelude.{◌+◌, ◌<◌, ◌≤◌, OnOk, OnSome};
 ghost use Rattle.try_page.specs.Reading.{left_of};
 
 use crate::field::Field;
+use crate::join::JoinName;
 use crate::line_fault::LineFault;
-use glyph_key::key::{FontEmbolden, Join};
-use shapes::{Affine, Rect};
+use glyph_key::key::FontEmbolden;
+use shapes::{Affine, Pixmap, Rect};
 use std::alloc::Global;
 use std::str::{FromStr, SplitAsciiWhitespace};
 
@@ -15,23 +16,12 @@ pub struct Words<'a> {
     rest: SplitAsciiWhitespace<'a>,
 }
 
-fn join_named(word: &str) -> Option<Join> {
-    match word {
-        "bevel" => Some(Join::Bevel),
-        "miter" => Some(Join::Miter),
-        "round" => Some(Join::Round),
-        _ => None,
-    }
-}
-
-fn parsed<'a, N: FromStr>(field: Field, word: &'a str) -> Result<N, LineFault<'a>>
+fn parsed<'a, T: FromStr>(field: Field, word: &'a str) -> Result<T, LineFault<'a>>
 where
-    N::Err: Drop,
+    T::Err: Drop,
 {
-    match word.parse::<N>() {
-        Ok(number) => Ok(number),
-        Err(_) => Err(LineFault::BadValue(field, word)),
-    }
+    word.parse::<T>()
+        .map_err(|_| LineFault::BadValue(field, word))
 }
 
 impl<'a> Words<'a> {
@@ -52,73 +42,63 @@ impl<'a> Words<'a> {
         Some(word)
     }
 
-    fn value(&mut self, field: Field) -> Result<&'a str, LineFault<'a>>
+    fn value_word(&mut self, field: Field) -> Result<&'a str, LineFault<'a>>
         ensures { OnOk result (left_of self.new < left_of self.old) }
     {
-        match self.next_word() {
-            Some(word) => Ok(word),
-            None => Err(LineFault::NoValue(field)),
-        }
+        self.next_word().ok_or(LineFault::NoValue(field))
     }
 
-    pub fn number<N: FromStr>(&mut self, field: Field) -> Result<N, LineFault<'a>>
+    pub fn value<T: FromStr>(&mut self, field: Field) -> Result<T, LineFault<'a>>
     where
-        N::Err: Drop,
+        T::Err: Drop,
         ensures { OnOk result (left_of self.new < left_of self.old) }
     {
-        let word = self.value(field)?;
+        let word = self.value_word(field)?;
         parsed(field, word)
+    }
+
+    // As many numbers as the array holds.
+    fn numbers<const N: usize>(&mut self, field: Field) -> Result<[f64; N], LineFault<'a>>
+        ensures { OnOk result (left_of self.new + N ≤ left_of self.old) }
+    {
+        let mut numbers = [0.0; N];
+        for number in numbers.iter_mut() {
+            *number = self.value(field)?;
+        }
+        Ok(numbers)
     }
 
     pub fn rect(&mut self, field: Field) -> Result<Rect, LineFault<'a>>
         ensures { OnOk result (left_of self.new < left_of self.old) }
     {
-        let x0 = self.number(field)?;
-        let y0 = self.number(field)?;
-        let x1 = self.number(field)?;
-        let y1 = self.number(field)?;
+        let [x0, y0, x1, y1] = self.numbers::<4>(field)?;
         Ok(Rect { x0, y0, x1, y1 })
     }
 
     pub fn affine(&mut self, field: Field) -> Result<Affine, LineFault<'a>>
         ensures { OnOk result (left_of self.new < left_of self.old) }
     {
-        let a = self.number(field)?;
-        let b = self.number(field)?;
-        let c = self.number(field)?;
-        let d = self.number(field)?;
-        let e = self.number(field)?;
-        let f = self.number(field)?;
+        let [a, b, c, d, e, f] = self.numbers::<6>(field)?;
         Ok(Affine { a, b, c, d, e, f })
     }
 
     // A width and a height.
-    pub fn extent(&mut self, field: Field) -> Result<(u16, u16), LineFault<'a>>
+    pub fn pixmap(&mut self, field: Field) -> Result<Pixmap, LineFault<'a>>
         ensures { OnOk result (left_of self.new < left_of self.old) }
     {
-        let width = self.number(field)?;
-        let height = self.number(field)?;
-        Ok((width, height))
-    }
-
-    fn join(&mut self, field: Field) -> Result<Join, LineFault<'a>>
-        ensures { OnOk result (left_of self.new < left_of self.old) }
-    {
-        let word = self.value(field)?;
-        match join_named(word) {
-            Some(join) => Ok(join),
-            None => Err(LineFault::BadValue(field, word)),
-        }
+        Ok(Pixmap {
+            handle: 0,
+            width: self.value(field)?,
+            height: self.value(field)?,
+        })
     }
 
     pub fn embolden(&mut self, field: Field) -> Result<FontEmbolden, LineFault<'a>>
         ensures { OnOk result (left_of self.new < left_of self.old) }
     {
-        let amount_x = self.number(field)?;
-        let amount_y = self.number(field)?;
-        let join = self.join(field)?;
-        let miter_limit = self.number(field)?;
-        let tolerance = self.number(field)?;
+        let [amount_x, amount_y] = self.numbers::<2>(field)?;
+        let JoinName(join) = self.value(field)?;
+        let [miter_limit, tolerance] = self.numbers::<2>(field)?;
         Ok(FontEmbolden {
             amount_x,
             amount_y,
@@ -132,11 +112,9 @@ impl<'a> Words<'a> {
     pub fn axes(&mut self, heap: Global, field: Field) -> Result<Vec<i16>, LineFault<'a>>
         ensures { OnOk result (left_of self.new < left_of self.old) }
     {
-        let word = self.value(field)?;
-        let mut axes = Vec::new(heap);
-        for part in word.split(',') {
-            axes.push(parsed(field, part)?)?;
-        }
-        Ok(axes)
+        let word = self.value_word(field)?;
+        word.split(',')
+            .map(|part| parsed::<i16>(field, part))
+            .try_collect(heap)
     }
 }

@@ -1,15 +1,22 @@
-use Rattle.std.proofs.Common.{◌≡◌, Bool, true, false, cond, List, [], ◌∷◌, ◌++◌, is_ok, vec_items, sym, ap, ◌∙◌}
+use Rattle.std.proofs.Common.{◌≡◌, ℕ, ◌+◌, Bool, true, false, not, cond, ap, ◌∙◌, subst}
+use Rattle.std.specs.HashSet.{contains}
 use Rattle.glyph_key.specs.declared.key.GlyphCacheKey.{GlyphCacheKey}
-use Rattle.try_page.specs.Once.{known, repeats}
-use Rattle.glyph_key.proofs.Once.{still_once}
+use Rattle.try_page.proofs.Keys.{alike}
 use Rattle.try_page.proofs.key_set.KeySet.add.Goals as goal
 
--- whether there was memory for it or not
-pushed : (b : Bool) (k : GlyphCacheKey) (ks after : List GlyphCacheKey) → after ≡ cond b (ks ++ k ∷ []) ks → repeats ks ≡ false → known ks k ≡ false → repeats after ≡ false
-pushed true k ks after e p q = ap repeats e ∙ still_once k ks p q
-pushed false k ks after e p q = ap repeats e ∙ p
+counted : (known added : Bool) (n m : ℕ) → added ≡ not known → m ≡ n + cond added 1 0 → m ≡ n + cond known 0 1
+counted true added n m e h = h ∙ ap (λ (b : Bool). n + cond b 1 0) e
+counted false added n m e h = h ∙ ap (λ (b : Bool). n + cond b 1 0) e
 
-pub invariant_of-self : goal.invariant_of-self
-invariant_of-self c =
-    let new : known (vec_items c.args.self.now.items) c.args.key ≡ false = ap (λ (l : List GlyphCacheKey). known l c.args.key) (sym c.as_slice.ensures.value) ∙ sym c.if-is_known.ensures in
-    record { once = pushed (is_ok c.push.result) c.args.key (vec_items c.args.self.now.items) (vec_items c.push.new.self) c.push.ensures.items c.args.self.now.once new }
+pub returns : goal.returns
+returns c =
+    let Same : Type 0 = GlyphCacheKey → GlyphCacheKey → Bool in
+    let old = c.args.self.now.items in
+    let clauses = c.in_ok-insert.ensures in
+    let added = clauses.added ∙ ap (λ (same : Same). not (contains same old c.args.key)) alike in (
+      added,
+      record {
+        has = λ q. let At : Same → Type 0 = λ same. contains same c.insert.new.self q ≡ cond (same c.args.key q) true (contains same old q) in subst At alike (clauses.updates.0 q);
+        count = counted _ _ _ _ added clauses.len;
+      },
+    )

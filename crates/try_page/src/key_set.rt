@@ -1,6 +1,7 @@
 // Keys, each once.
 ghost use Rattle.std.specs.Prelude.{◌≡◌, not, IfOk};
-ghost use Rattle.std.specs.HashSet.{IsEmpty, hash_set_len};
+ghost use Rattle.std.specs.HashSet.{IsEmpty, IsUnique, hash_set_len};
+ghost use Rattle.glyph_key.specs.Keys.{same_key};
 ghost use Rattle.try_page.specs.Once.{known, IsWith};
 
 use glyph_key::key::GlyphCacheKey;
@@ -21,8 +22,10 @@ impl KeySet {
         }
     }
 
+    // No two keys of the set are the same, so that this is how many different ones came.
     pub fn len(&self) -> usize
-        ensures { result ≡ hash_set_len self.now.items }
+        ensures count { result ≡ hash_set_len self.now.items }
+        ensures once { IsUnique same_key self.now.items }
     {
         self.items.len()
     }

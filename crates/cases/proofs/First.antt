@@ -11,7 +11,7 @@ use Rattle.grid_cache.specs.Laws.{lawful, there_by}
 pub it_fits : (g d : Grid) (e : CacheFault) → Fresh 10 2 g → NoRoom (cache_of_grid g) 10 1 e (cache_of_grid d) → ⊥
 it_fits g d e fresh refusal =
     let side : g.cell ≡ 10 = fresh.side in
-    let law = lawful g.cell g.count g.free g.sizes g.large g.small g.some g.few g.narrow g.low in
+    let law = lawful g.cell g.count g.free g.sizes g.limits g.within in
     both_ways ((cache_of_grid g).fits 10 1) refusal.unfit (law.empty_fits fresh.none_live 10 1 (omega arith) (omega arith) (omega arith) (omega arith))
 
 last_cell : (g : Grid) (i : ℕ) → Fresh 10 2 g → Chosen g i → i ≡ 63

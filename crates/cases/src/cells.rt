@@ -4,6 +4,7 @@ ghost use Rattle.cases.specs.Cells.{Lists, Cells};
 
 use grid_cache::grid::Grid;
 use image_cache::cache::ImageCache;
+use image_cache::image::Size;
 
 // With cells of ten pixels, the first image of a new grid goes to the last cell of the first page, at (70, 70).
 pub(crate) fn cells_hold() -> bool
@@ -14,7 +15,7 @@ pub(crate) fn cells_hold() -> bool
     let Ok(mut grid) = Grid::new(10, 2) else {
         return false;
     };
-    let Ok(id) = grid.allocate(10, 1) else {
+    let Ok(id) = grid.allocate(Size { w: 10, h: 1 }) else {
         return false;
     };
     let Some(image) = grid.get(id) else {

@@ -5,7 +5,6 @@ mod choice;
 mod draft;
 mod failure;
 mod field;
-mod join;
 mod key_set;
 mod letter;
 mod line_fault;

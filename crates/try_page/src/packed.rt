@@ -4,8 +4,8 @@ use crate::picture::Picture;
 use crate::refused::Refused;
 use image_cache::cache::ImageCache;
 use image_cache::fault::CacheFault;
-use image_cache::image::Image;
-use packing::place::{Extent, place, place_all};
+use image_cache::image::{Image, Size};
+use packing::place::{place, place_all};
 use std::{fmt, io};
 
 // A picture, and the place that the cache gave it.
@@ -57,8 +57,7 @@ fn place_again<C: ImageCache>(
         }
     }
     for again in placed.iter_mut().step_by(2) {
-        let size = again.picture.extent;
-        again.answer = place(cache, size.w, size.h);
+        again.answer = place(cache, again.picture.size);
         rt.println(&*again)?;
     }
     Ok(())
@@ -79,8 +78,8 @@ pub fn pack<C: ImageCache>(
     pictures: &[Picture],
 ) -> io::Result<()> {
     let heap = rt.alloc();
-    let extents: Vec<Extent> = pictures.iter().map(|picture| picture.extent).collect(heap)?;
-    let answers = place_all(heap, cache, extents.as_slice())?;
+    let sizes: Vec<Size> = pictures.iter().map(|picture| picture.size).collect(heap)?;
+    let answers = place_all(heap, cache, sizes.as_slice())?;
     let mut placed: Vec<Placed<'_>> = pictures
         .iter()
         .zip(answers.iter().copied())
@@ -92,7 +91,7 @@ pub fn pack<C: ImageCache>(
     println!(rt; "every other one freed, and placed again")?;
     place_again(rt, cache, placed.as_mut_slice())?;
     let marks: Vec<Mark> = placed.iter().filter_map(|one| one.mark()).collect(heap)?;
-    let size = Extent {
+    let size = Size {
         w: cache.page_width(),
         h: cache.page_height(),
     };

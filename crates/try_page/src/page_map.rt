@@ -2,8 +2,7 @@
 ghost use Rattle.std.specs.Prelude.{◌≡◌};
 ghost use Rattle.try_page.specs.Spot.{covers};
 
-use image_cache::image::Image;
-use packing::place::Extent;
+use image_cache::image::{Image, Size};
 use std::alloc::{AllocError, Global};
 
 // Characters of a map, across and down: two to one, as characters stand.
@@ -49,7 +48,7 @@ fn middle(cell: u32, cells: u32, size: u16) -> u32 {
 pub struct PageMap<'a> {
     pub marks: &'a [Mark],
     pub page: u32,
-    pub size: Extent,
+    pub size: Size,
 }
 
 impl PageMap<'_> {

@@ -1,5 +1,5 @@
 // The pictures that a page wants of the atlas, each once, in the order in which they first come.
-use packing::place::Extent;
+use image_cache::image::Size;
 use raster::glyph::RasterMetrics;
 use std::alloc::{AllocError, Global};
 
@@ -10,7 +10,7 @@ pub const PADDING: u16 = 2;
 pub struct Picture {
     pub name: String,
     pub line: u64,
-    pub extent: Extent,
+    pub size: Size,
 }
 
 impl Picture {
@@ -23,7 +23,7 @@ impl Picture {
         Ok(Picture {
             name: String::from_str(heap, name)?,
             line,
-            extent: Extent {
+            size: Size {
                 w: metrics.width.saturating_add(PADDING),
                 h: metrics.height.saturating_add(PADDING),
             },

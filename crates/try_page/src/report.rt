@@ -1,9 +1,8 @@
 // The line that is printed for a letter.
-use crate::join::JoinName;
 use crate::letter::Letter;
 use crate::refused::Refused;
 use crate::verdict::{LetterFault, Verdict};
-use glyph_key::key::{GlyphCacheKey, Join, KeyBits};
+use glyph_key::key::{GlyphCacheKey, KeyBits};
 use raster::glyph::RasterMetrics;
 use std::fmt;
 
@@ -16,10 +15,7 @@ pub struct Report<'a> {
 
 // What of a key a page's author can set right: the numbers as f32 bit patterns.
 #[derive(Clone, Copy)]
-struct KeyWords {
-    key: GlyphCacheKey,
-    join: Join,
-}
+struct KeyWords(GlyphCacheKey);
 
 impl fmt::Display for KeyWords {
     fn fmt<W: fmt::Write>(&self, f: &mut fmt::Formatter<W>) -> fmt::Result {
@@ -29,12 +25,12 @@ impl fmt::Display for KeyWords {
             embolden_y,
             miter_limit,
             tolerance,
-        } = self.key.bits();
-        let join = JoinName(self.join);
+        } = self.0.bits();
         write!(
             f,
-            "bucket {}, size {size:08X}, embolden {embolden_x:08X} {embolden_y:08X} {join} {miter_limit:08X} tolerance {tolerance:08X}",
-            self.key.bucket()
+            "bucket {}, size {size:08X}, embolden {embolden_x:08X} {embolden_y:08X} {} {miter_limit:08X} tolerance {tolerance:08X}",
+            self.0.bucket(),
+            self.0.join()
         )
     }
 }
@@ -42,7 +38,6 @@ impl fmt::Display for KeyWords {
 impl fmt::Display for Report<'_> {
     fn fmt<W: fmt::Write>(&self, f: &mut fmt::Formatter<W>) -> fmt::Result {
         let letter = self.letter;
-        let join = letter.parts.embolden.join;
         write!(f, "line {}: {} {}: ", self.line, letter.kind(), letter.name)?;
         match self.verdict {
             Ok(Verdict::Atlas(key, metrics)) => {
@@ -52,11 +47,11 @@ impl fmt::Display for Report<'_> {
                     left,
                     top,
                 } = metrics;
-                write!(f, "{}; atlas; ", KeyWords { key, join })?;
+                write!(f, "{}; atlas; ", KeyWords(key))?;
                 write!(f, "slot {width} x {height}, bearings {left} {top}")
             }
             Ok(Verdict::Plain(key)) => {
-                write!(f, "{}; plain: ", KeyWords { key, join })?;
+                write!(f, "{}; plain: ", KeyWords(key))?;
                 f.write_str("its transform is skewed, scaled or mirrored")
             }
             Err(fault) => write!(f, "{}", Refused(fault)),

@@ -3,7 +3,6 @@ ghost use Rattle.std.specs.Prelude.{◌+◌, ◌<◌, ◌≤◌, OnOk, OnSome};
 ghost use Rattle.try_page.specs.Reading.{left_of};
 
 use crate::field::Field;
-use crate::join::JoinName;
 use crate::line_fault::LineFault;
 use glyph_key::key::FontEmbolden;
 use shapes::{Affine, Pixmap, Rect};
@@ -97,7 +96,7 @@ impl<'a> Words<'a> {
         ensures { OnOk result (left_of self.new < left_of self.old) }
     {
         let [amount_x, amount_y] = self.numbers::<2>(field)?;
-        let JoinName(join) = self.value(field)?;
+        let join = self.value(field)?;
         let [miter_limit, tolerance] = self.numbers::<2>(field)?;
         Ok(FontEmbolden {
             amount_x,

@@ -8,6 +8,8 @@ use Rattle.std.specs.Cmp.Lexicographic.{pointwise}
 use Rattle.glyph_key.specs.declared.key.GlyphCacheKey.{GlyphCacheKey}
 use Rattle.glyph_key.specs.declared.key.Join.{Join}
 use Rattle.glyph_key.specs.declared.key.Join.TheVariants.{Bevel, Miter, Round}
+use Rattle.glyph_key.specs.contracts.key.JoinPartialEq.TheImpl as join_eq
+use Rattle.glyph_key.specs.contracts.key.GlyphCacheKeyPartialEq.TheImpl as key_eq
 use Rattle.glyph_key.specs.Keys.{join_number, same_number, same_numbers, fields, same_key}
 
 number_decides : (x y : ℤ) → Decides (same_number x y) (x ≡ y)
@@ -69,19 +71,19 @@ flags true false = refl
 flags false true = refl
 flags false false = refl
 
-joins : (r : Bool) (x y : Join) → Decides r (x ≡ y) → r ≡ (join_number x == join_number y)
-joins r x y h = same_from_decides r (join_number x == join_number y) h (Decides-like (join_number x == join_number y) (join_equal x y) (ap join_number) (Decides-eqb (join_number x) (join_number y)))
+joins : (x y : Join) → (join_eq.ghosts).eq x y ≡ (join_number x == join_number y)
+joins Bevel Bevel = refl
+joins Bevel Miter = refl
+joins Bevel Round = refl
+joins Miter Bevel = refl
+joins Miter Miter = refl
+joins Miter Round = refl
+joins Round Bevel = refl
+joins Round Miter = refl
+joins Round Round = refl
 
 lists : (xs ys : List ℤ) → pointwise int_eq xs ys ≡ same_numbers xs ys
 lists xs ys = same_from_decides (pointwise int_eq xs ys) (same_numbers xs ys) (slice_eq-Decides Decides-int_eq xs ys (pointwise int_eq xs ys) refl) (numbers_decide xs ys)
 
--- r is what the comparison of the joins answers
-abbrev derived : Bool → GlyphCacheKey → GlyphCacheKey → Bool
-derived r a b =
-    (a.font_id == b.font_id) && ((a.font_index == b.font_index) && ((a.glyph_id == b.glyph_id) && (((a.bits.size == b.bits.size)
-    && ((a.bits.embolden_x == b.bits.embolden_x) && ((a.bits.embolden_y == b.bits.embolden_y) && ((a.bits.miter_limit == b.bits.miter_limit)
-    && (a.bits.tolerance == b.bits.tolerance))))) && (beq a.hinted b.hinted && ((a.subpixel_x == b.subpixel_x)
-    && ((a.context_color_packed == b.context_color_packed) && (r && ((a.axes.count == b.axes.count) && pointwise int_eq a.axes.places b.axes.places))))))))
-
-pub derived_same : (r : Bool) (a b : GlyphCacheKey) → Decides r (a.join ≡ b.join) → derived r a b ≡ same_key a b
-derived_same r a b h = simp (and_assoc, flags, joins r a.join b.join h, lists)
+pub derived_same : (a b : GlyphCacheKey) → (key_eq.ghosts).eq a b ≡ same_key a b
+derived_same a b = simp (and_assoc, flags, joins, lists)

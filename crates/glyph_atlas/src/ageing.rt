@@ -13,6 +13,7 @@ use crate::table::EntryTable;
 use image_cache::cache::ImageCache;
 use interface::region::AtlasSlot;
 use lists::bounded::Bounded;
+use lists::test::Test;
 
 // The slot with one pixel more on every side.
 fn pad(slot: AtlasSlot) -> PendingClearRect
@@ -56,6 +57,15 @@ fn free_old<C: ImageCache>(
     }
 }
 
+// The entries that stay.
+impl Test<GlyphCacheEntry> for AgeLimit {
+    ghost accepts = { unaged };
+
+    fn passes(&self, entry: &GlyphCacheEntry) -> bool {
+        !self.is_past(entry)
+    }
+}
+
 impl EntryTable {
     // No clear may wait yet, so that there is a place for each.
     pub(crate) fn evict<C: ImageCache>(
@@ -70,6 +80,6 @@ impl EntryTable {
         ensures images { FreedAll (C.meaning cache.old) (map image_id (map slot_of (filter (aged limit) self.old))) (C.meaning cache.new) }
     {
         free_old(self.entries.as_slice(), limit, clears, cache);
-        self.entries.retain(|entry| !limit.is_past(entry));
+        self.entries.retain(&limit);
     }
 }

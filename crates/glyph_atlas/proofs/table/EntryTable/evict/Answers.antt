@@ -1,6 +1,5 @@
 -- The table without its old entries is as every table is.
-use Rattle.std.proofs.Common.{◌≡◌, filter, ap, ◌∙◌, rules}
-use Rattle.std.proofs.lemmas.Fn.{filter_same}
+use Rattle.std.proofs.Common.{filter, ap, ◌∙◌}
 use Rattle.glyph_key.specs.Once.{repeats}
 use Rattle.glyph_atlas.specs.Shape.{keys_of, oversized}
 use Rattle.glyph_atlas.specs.Places.{unaged}
@@ -11,8 +10,5 @@ pub invariant_of-self : goal.invariant_of-self
 invariant_of-self g c =
     let es = c.self.inside.entries in
     let stay = unaged c.args.limit in
-    let kept : c.retain.new.self ≡ filter stay es = filter_same _ _ _ (λ x b f' k. search rules) _ _ c.retain.ensures in
+    let kept = c.retain.ensures in
     (ap (λ ys. repeats (keys_of ys)) kept ∙ once_less stay es c.self.invariant.0, ap (filter oversized) kept ∙ sized_less oversized stay es c.self.invariant.1)
-
-pub returns-clause-stay : goal.returns-clause-stay
-returns-clause-stay g c = filter_same _ _ _ (λ x b f' k. search rules) _ _ c.retain.ensures ∙ ap (filter (unaged c.args.limit)) c.self.view_is

@@ -1,9 +1,9 @@
 -- Bits of a word: what turning one changes, and where the highest stands.
-use Rattle.std.proofs.Common.{◌≡◌, ℕ, suc, ◌-◌, ◌/◌, ◌^◌, ◌<◌, true, false, not, ◌==◌, ◌≢◌, bit_xor, ap, arith}
+use Rattle.std.proofs.Common.{◌≡◌, ℕ, suc, ◌-◌, ◌/◌, ◌%◌, ◌^◌, ◌<◌, true, false, not, ◌==◌, ◌≢◌, bit_and, bit_xor, ap, arith}
 use Rattle.std.proofs.Math.Nat.{div-eq_of_lt-le, pow-succ'}
 use Rattle.std.specs.Int.Count.{count_leading_zeros}
 use Rattle.std.proofs.lemmas.Nat.{leading_top}
-use Rattle.std.proofs.lemmas.Nat.Bits.{bit_at_xor, bit_at-pow_same, bit_at-pow_other, bit_at-lt, bit_at-zero, bit_at_ones, bit_at_above}
+use Rattle.std.proofs.lemmas.Nat.Bits.{bit_at_xor, bit_at-pow_same, bit_at-pow_other, bit_at-lt, bit_at-zero, bit_at_ones, bit_at_above, and_mask}
 use Rattle.std.proofs.lemmas.Bool.Decides.{nat_tests}
 use Rattle.grid_cache.specs.Cells.{bit}
 
@@ -34,3 +34,10 @@ zero_bit k = ap (λ n. n == 1) (bit_at-zero k)
 -- a word of ones
 pub full_bit : (k : ℕ) → k < 64 → bit k (2 ^ 64 - 1) ≡ true
 full_bit k l = ap (λ n. n == 1) (bit_at_ones 64 k l)
+
+pub highest_below : (word : ℕ) → highest word < 64
+highest_below word = omega arith
+
+-- the test of the lowest bit, as the code writes it
+pub clear_test : (n : ℕ) → (bit_and n 1 == 0) ≡ not (n % 2 == 1)
+clear_test n = grind (arith, nat_tests, and_mask n 1)

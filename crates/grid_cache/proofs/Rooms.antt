@@ -1,8 +1,8 @@
 -- Whether some cell is free, told by the words of the pages, and which is chosen.
-use Rattle.std.proofs.Common.{◌≡◌, ℕ, suc, ◌+◌, ◌*◌, ◌/◌, ◌%◌, ◌^◌, ◌<◌, false, List, [], ◌∷◌, length, Option, Some, None, is_some, slice_index, refl, sym, arith}
+use Rattle.std.proofs.Common.{◌≡◌, ℕ, suc, ◌+◌, ◌*◌, ◌/◌, ◌%◌, ◌^◌, ◌<◌, ◌≤◌, true, false, List, [], ◌∷◌, length, Option, Some, None, is_some, slice_index, refl, sym, arith}
 use Rattle.std.proofs.lemmas.Bool.Decides.{nat_tests}
 use Rattle.grid_cache.specs.declared.grid.Grid.{Grid}
-use Rattle.grid_cache.specs.Cells.{any_free, Chosen, FirstRoom}
+use Rattle.grid_cache.specs.Cells.{any_free, fits_in, Chosen, FirstRoom}
 use Rattle.grid_cache.specs.Laws.{some_free}
 use Rattle.grid_cache.proofs.Bits.{highest, highest_set, highest_above, zero_bit}
 
@@ -30,3 +30,10 @@ chosen_is g p page some small before =
       none_higher = λ j same l. let e : j / 64 ≡ p = omega arith in rw e (highest_above word (j % 64) some small (omega arith));
       none_earlier = λ j l. rw (before (j / 64) (omega arith)) (zero_bit (j % 64));
     }
+
+-- what has room is no larger than a cell
+pub fits_wide : (cell w h : ℕ) (words : List ℕ) → fits_in cell words w h ≡ true → w ≤ cell
+fits_wide cell w h words t = grind (arith, nat_tests)
+
+pub fits_high : (cell w h : ℕ) (words : List ℕ) → fits_in cell words w h ≡ true → h ≤ cell
+fits_high cell w h words t = grind (arith, nat_tests)

@@ -1,13 +1,13 @@
 -- Where an image goes, from the first shelf that takes it and the first place that opens.
-use Rattle.std.specs.Prelude.{◌≡◌, ℕ, ◌<◌, ◌≤◌, true, false, None, Option}
+use Rattle.std.specs.Prelude.{◌≡◌, ℕ, ◌<◌, ◌≤◌, true, false, Some, None, Option}
 use Rattle.std.specs.Option.{option_map, option_or}
 use Rattle.std.proofs.Common.{arith}
 use Rattle.std.proofs.lemmas.Bool.Decides.{nat_tests}
 use Rattle.shelf_cache.specs.declared.shelf.Place.{Place}
 use Rattle.shelf_cache.specs.declared.shelves.Shelves.{Shelves}
-use Rattle.shelf_cache.specs.Rows.{FirstBelow}
+use Rattle.shelf_cache.specs.Rows.{first_below, FirstBelow}
 use Rattle.shelf_cache.specs.Places.{taking, opening, admits, old_place, new_place, place_for}
-use Rattle.shelf_cache.specs.First.{first_is}
+use Rattle.shelf_cache.specs.First.{first_is, first_spec}
 
 pub admitted : (live width height w h : ℕ) → live < 256 → 0 < w → w ≤ width → 0 < h → h ≤ height → admits live width height w h ≡ true
 admitted live width height w h l a b c d = grind (arith, nat_tests)
@@ -24,3 +24,6 @@ module _ (g : Shelves) (w h : ℕ) where
 
   pub place_none : admits g.live g.width g.height w h ≡ false → place_for g w h ≡ None
   place_none z = rw z
+
+  pub place_old : (s : ℕ) → admits g.live g.width g.height w h ≡ true → FirstBelow (taking g w h) 64 (Some s) → place_for g w h ≡ Some (old_place g.shelves s)
+  place_old s z f = place_both (Some s) (first_below (opening g h) 64) z f (first_spec (opening g h) 64)

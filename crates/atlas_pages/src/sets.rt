@@ -95,7 +95,8 @@ impl AtlasPages {
 
     // Some page has fewer than 3 of its 120 places free.
     pub fn is_crowded(&self) -> bool
-        ensures { result ≡ any_crowded self.now }
+        ensures crowded { result ≡ any_crowded self.now }
+        ensures numbered { numbers self.now ≡ page_numbers }
     {
         one_crowded(&self.recorders)
     }

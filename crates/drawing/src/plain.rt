@@ -25,7 +25,7 @@ fn scaled(transform: Affine, scale: f64) -> Affine
     }
 }
 
-// A bitmap is shown alike whatever the style.
+// A glyph drawn from its own outline or pixmap. A bitmap is shown alike whatever the style.
 #[derive(Clone, Copy)]
 pub struct Plain {
     pub glyph: Glyph,

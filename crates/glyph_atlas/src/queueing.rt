@@ -1,6 +1,7 @@
 // What a new picture needs: commands on its page, or an upload.
-ghost use Rattle.std.specs.Prelude.{◌≡◌, length};
+ghost use Rattle.std.specs.Prelude.{◌≡◌, ◌≤◌, length};
 ghost use Rattle.shapes.specs.Answers.{KeepsRefused};
+ghost use Rattle.atlas_pages.specs.Sets.{numbers, page_numbers};
 ghost use Rattle.atlas_pages.specs.AllPages.{any_crowded};
 ghost use Rattle.glyph_atlas.specs.Queues.{Commanded, Queued};
 
@@ -10,15 +11,26 @@ use crate::pending::PendingBitmapUpload;
 use interface::values::AtlasCommand;
 
 impl GlyphAtlas {
-    // Some page has fewer than 3 of its 120 places free.
+    // Some page has fewer than 3 of its 120 places free. The pages are 0 to 3.
     pub fn is_crowded(&self) -> bool
-        ensures { result ≡ any_crowded self.now.pages }
+        ensures crowded { result ≡ any_crowded self.now.pages }
+        ensures numbered { numbers self.now.pages ≡ page_numbers }
     {
         self.pages.is_crowded()
     }
 
+    // At most 256.
+    pub fn clears_waiting(&self) -> usize
+        ensures value { result ≡ length self.now.clears }
+        ensures few { result ≤ 256 }
+    {
+        self.clears.len()
+    }
+
+    // At most 64.
     pub fn uploads_waiting(&self) -> usize
-        ensures { result ≡ length self.now.uploads }
+        ensures value { result ≡ length self.now.uploads }
+        ensures few { result ≤ 64 }
     {
         self.uploads.len()
     }

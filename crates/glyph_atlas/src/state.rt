@@ -1,7 +1,9 @@
 // Looking at an atlas.
-ghost use Rattle.std.specs.Prelude.{◌≡◌, length};
+ghost use Rattle.std.specs.Prelude.{◌≡◌, ◌≤◌, false, [], length, filter};
 ghost use Rattle.shapes.specs.Answers.{none};
+ghost use Rattle.glyph_key.specs.Once.{repeats};
 ghost use Rattle.glyph_atlas.specs.Atlases.{config_of};
+ghost use Rattle.glyph_atlas.specs.Shape.{keys_of, oversized};
 
 use crate::atlas::GlyphAtlas;
 use crate::config::GlyphCacheConfig;
@@ -13,9 +15,12 @@ impl GlyphAtlas {
         self.config
     }
 
-    // How many entries there are.
+    // How many entries there are: at most 256, each key once, and every slot small enough that its padding fits 16 bits.
     pub fn len(&self) -> usize
-        ensures { result ≡ length self.now.entries }
+        ensures value { result ≡ length self.now.entries }
+        ensures few { result ≤ 256 }
+        ensures once { repeats (keys_of self.now.entries) ≡ false }
+        ensures sized { filter oversized self.now.entries ≡ [] }
     {
         self.table.len()
     }

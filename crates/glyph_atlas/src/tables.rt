@@ -1,6 +1,8 @@
 // The table made, asked, added to and emptied. Only `new` asks for memory.
-ghost use Rattle.std.specs.Prelude.{◌≡◌, ◌<◌, ◌≤◌, [], ◌∷◌, ◌++◌, length, IfOk, None};
+ghost use Rattle.std.specs.Prelude.{◌≡◌, ◌<◌, ◌≤◌, false, [], ◌∷◌, ◌++◌, length, IfOk, None, filter};
+ghost use Rattle.glyph_key.specs.Once.{repeats};
 ghost use Rattle.glyph_atlas.specs.Atlases.{lookup};
+ghost use Rattle.glyph_atlas.specs.Shape.{keys_of, oversized};
 
 use crate::entry::GlyphCacheEntry;
 use crate::table::EntryTable;
@@ -18,6 +20,8 @@ impl EntryTable {
     pub(crate) fn len(&self) -> usize
         ensures value { result ≡ length self.now }
         ensures few { result ≤ 256 }
+        ensures once { repeats (keys_of self.now) ≡ false }
+        ensures sized { filter oversized self.now ≡ [] }
     {
         self.entries.len()
     }

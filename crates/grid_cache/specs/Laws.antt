@@ -29,11 +29,11 @@ there_by b x a h = let p = cond_some b x a h in (p.0, sym p.1)
 
 -- what a live image is
 live_is : (cell count : ℕ) (words : List ℕ) (sizes : List Size) (i : ℕ) (a : Image) → (cache_of cell count words sizes).live i ≡ Some a
-    → (i < 64 * count) × (a ≡ image_at cell sizes i)
-live_is cell count words sizes i a h =
-    let p = there_by (is_taken count words i) (image_at cell sizes i) a h in
-    let t : is_taken count words i ≡ true = p.0 in
-    (grind (arith, nat_tests), p.1)
+    → (is_taken count words i ≡ true) × (a ≡ image_at cell sizes i)
+live_is cell count words sizes i a h = there_by (is_taken count words i) (image_at cell sizes i) a h
+
+taken_below : (count : ℕ) (words : List ℕ) (i : ℕ) → is_taken count words i ≡ true → i < 64 * count
+taken_below count words i t = grind (arith, nat_tests)
 
 module _ (cell count : ℕ) (words : List ℕ) (sizes : List Size) (within : (k : ℕ) → GoesInto cell (slice_index_or sizes k no_size)) where
   image_inside : (i : ℕ) → i < 64 * count → Inside (cache_of cell count words sizes) (image_at cell sizes i)
@@ -74,11 +74,11 @@ pub lawful : (cell count : ℕ) (words : List ℕ) (sizes : List Size) → InLim
 lawful cell count words sizes limits within = record {
   limits = record { width = (omega arith, omega arith); height = (omega arith, omega arith); count = (limits.some, limits.few); largest = (limits.large, limits.large) };
   named = λ i a h. ap (λ (x : Image). x.id) (live_is cell count words sizes i a h).1;
-  ids = λ i a h. let l = (live_is cell count words sizes i a h).0 in let p : 256 < 2 ^ 32 = lit< tt in omega arith;
+  ids = λ i a h. let l = taken_below count words i (live_is cell count words sizes i a h).0 in let p : 256 < 2 ^ 32 = lit< tt in omega arith;
   inside = λ i a h.
       let p = live_is cell count words sizes i a h in
       let P : Image → Type 0 = Inside (cache_of cell count words sizes) in
-      subst P (sym p.1) (image_inside cell count words sizes within i p.0);
+      subst P (sym p.1) (image_inside cell count words sizes within i (taken_below count words i p.0));
   apart = λ i j a b h k ne q m n.
       let P : Image → Type 0 = In q in
       images_apart cell count words sizes within i j ne q (subst P (live_is cell count words sizes i a h).1 m) (subst P (live_is cell count words sizes j b k).1 n);

@@ -1,4 +1,4 @@
-// Tests of records, each by one meaning, so that a list can keep those that pass and no caller has to show anything.
+// A test that a record passes or not. A list keeps the records that pass one, whatever they are.
 ghost use Rattle.std.specs.Prelude.{◌≡◌, Bool};
 
 pub trait Test<T> {

@@ -3,7 +3,7 @@ ghost use Rattle.std.specs.Prelude.{◌≡◌, ℕ};
 
 use std::fmt;
 
-// Shown in words, and told apart by its number, which no other refusal has.
+// Shown in words, with a number. A refusal that is carried on by another layer keeps its number.
 pub trait Refusal: fmt::Display {
     ghost numbered: { Self → ℕ };
 

@@ -22,7 +22,7 @@ module _ (g : Shelves) (w h : ℕ) where
   fit_new s z f o = record { admitted = z; there = o.0; chosen = inr (record { no_shelf_takes = f; is = refl; opens = o.1; none_before = o.2; page = first_page g h s o.1 o.2 }) }
 
   fit_from : (t : Bool) (a b : Option ℕ) (p : Place) → admits g.live g.width g.height w h ≡ t → FirstBelow (taking g w h) 64 a → FirstBelow (opening g h) 64 b
-      → cond t (either g w h a b) None ≡ Some p → FitIn g w h p
+      → cond t (either g.width g.height g.count g.shelves g.standing g.live w h a b) None ≡ Some p → FitIn g w h p
   fit_from false a b p z f o e = absurd (none-some p e)
   fit_from true None None p z f o e = absurd (none-some p e)
   fit_from true None (Some s) p z f o e = subst (FitIn g w h) (same_Some (new_place g.shelves h s) p e) (fit_new s z f o)

@@ -60,7 +60,7 @@ module _ (g : Shelves) where
       let top = gone 0 in
       let some = g.pages in
       let o : opening g h 0 ≡ true = grind (arith, nat_tests) in
-      let e = place_both g w h None (Some 0) z f (omega arith, o, λ k l. absurd (omega arith)) in
+      let e = place_both g.width g.height g.count g.shelves g.standing g.live w h None (Some 0) z f (omega arith, o, λ k l. absurd (omega arith)) in
       ap is_some e
 
   pub lawful : Lawful (cache_of_shelves g)
@@ -81,7 +81,7 @@ module _ (g : Shelves) where
         let P : Image → Type 0 = λ x. In z x → In z b → ⊥ in
         let Q : Image → Type 0 = λ x. In z (image_of (spot_at g.spots f.0)) → In z x → ⊥ in
         subst P (sym f.1.1.1) (subst Q (sym e.1.1.1) (images_apart f.0 e.0 (λ q. ne (sym f.1.1.0 ∙ (ap (λ n. (spot_at g.spots n).id) q ∙ e.1.1.0))) f.1.0 e.1.0 z));
-    none_wide = λ h. ap is_some (place_none g 0 h (and_right (nat_lt g.live 256) false refl));
-    none_high = λ w. ap is_some (place_none g w 0 (and_right (nat_lt g.live 256) _ (and_right (nat_lt 0 w && nat_le w g.width) false refl)));
+    none_wide = λ h. ap is_some (place_none g.width g.height g.count g.shelves g.standing g.live 0 h (and_right (nat_lt g.live 256) false refl));
+    none_high = λ w. ap is_some (place_none g.width g.height g.count g.shelves g.standing g.live w 0 (and_right (nat_lt g.live 256) _ (and_right (nat_lt 0 w && nat_le w g.width) false refl)));
     empty_fits = fits_when_empty;
   }

@@ -49,16 +49,20 @@ impl fmt::Display for Placed<'_> {
 fn place_again<C: ImageCache>(
     rt: &HostRuntime,
     cache: &mut C,
-    placed: &mut [Placed<'_>],
+    pictures: &[Picture],
+    answers: &mut [Result<Image, CacheFault>],
 ) -> io::Result<()> {
-    for freed in placed.iter().step_by(2) {
-        if let Ok(image) = freed.answer {
+    for answer in answers.iter().step_by(2) {
+        if let Ok(image) = *answer {
             let _ = cache.free(image.id);
         }
     }
-    for again in placed.iter_mut().step_by(2) {
-        again.answer = place(cache, again.picture.size);
-        rt.println(&*again)?;
+    for (picture, answer) in pictures.iter().zip(answers.iter_mut()).step_by(2) {
+        *answer = place(cache, picture.size);
+        rt.println(Placed {
+            picture,
+            answer: *answer,
+        })?;
     }
     Ok(())
 }
@@ -79,18 +83,17 @@ pub fn pack<C: ImageCache>(
 ) -> io::Result<()> {
     let heap = rt.alloc();
     let sizes: Vec<Size> = pictures.iter().map(|picture| picture.size).collect(heap)?;
-    let answers = place_all(heap, cache, sizes.as_slice())?;
-    let mut placed: Vec<Placed<'_>> = pictures
-        .iter()
-        .zip(answers.iter().copied())
-        .map(|(picture, answer)| Placed { picture, answer })
-        .collect(heap)?;
-    for one in placed.iter() {
-        rt.println(one)?;
+    let mut answers = place_all(heap, cache, sizes.as_slice())?;
+    for (picture, answer) in pictures.iter().zip(answers.iter().copied()) {
+        rt.println(Placed { picture, answer })?;
     }
     println!(rt; "every other one freed, and placed again")?;
-    place_again(rt, cache, placed.as_mut_slice())?;
-    let marks: Vec<Mark> = placed.iter().filter_map(|one| one.mark()).collect(heap)?;
+    place_again(rt, cache, pictures, answers.as_mut_slice())?;
+    let marks: Vec<Mark> = pictures
+        .iter()
+        .zip(answers.iter().copied())
+        .filter_map(|(picture, answer)| Placed { picture, answer }.mark())
+        .collect(heap)?;
     let size = Size {
         w: cache.page_width(),
         h: cache.page_height(),

@@ -24,10 +24,10 @@ fn is_over(image: Image, page: u32, x: u32, y: u32) -> bool
     let left = u32::from(image.x);
     let top = u32::from(image.y);
     (image.page == page)
-        & (left <= x)
-        & (x < left + u32::from(image.w))
-        & (top <= y)
-        & (y < top + u32::from(image.h))
+        && (left <= x)
+        && (x < left + u32::from(image.w))
+        && (top <= y)
+        && (y < top + u32::from(image.h))
 }
 
 impl Mark {

@@ -74,7 +74,7 @@ fn is_finite_glyph(glyph: Glyph) -> bool
     ensures { result ≡ finite_glyph glyph }
 {
     match glyph {
-        Glyph::Outline(outline) => outline.path.is_finite() & outline.scale.is_finite(),
+        Glyph::Outline(outline) => outline.path.is_finite() && outline.scale.is_finite(),
         Glyph::Bitmap(bitmap) => bitmap.area.is_finite(),
     }
 }
@@ -96,7 +96,7 @@ impl<'a> Letter<'a> {
         ensures number { refused_with fault_number result ≡ letter_refusal self.now }
     {
         let key = self.key()?;
-        if !(self.transform.is_finite() & is_finite_glyph(self.glyph)) {
+        if !(self.transform.is_finite() && is_finite_glyph(self.glyph)) {
             return Err(LetterFault::NotFinite);
         }
         if !supports_atlas_caching(self.transform, self.glyph) {

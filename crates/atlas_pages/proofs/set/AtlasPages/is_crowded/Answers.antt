@@ -5,5 +5,5 @@ use Rattle.atlas_pages.specs.AllPages.{crowded}
 use Rattle.atlas_pages.proofs.Searching.{any_passes}
 use Rattle.atlas_pages.proofs.set.AtlasPages.is_crowded.Goals as goal
 
-pub returns : goal.returns
-returns c = c.one_crowded.ensures ∙ (ap (list_any crowded) c.self.view_is ∙ any_passes crowded c.args.self.now)
+pub returns-clause-crowded : goal.returns-clause-crowded
+returns-clause-crowded c = c.one_crowded.ensures ∙ (ap (list_any crowded) c.self.view_is ∙ any_passes crowded c.args.self.now)

@@ -3,3 +3,4 @@ pub mod Pictures
 pub mod Slots
 pub mod States
 pub mod Sinks
+pub mod Screens

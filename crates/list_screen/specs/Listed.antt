@@ -4,21 +4,13 @@
 use Rattle.std.specs.Prelude.{ℕ, ◌-◌, List, length}
 use Rattle.shapes.specs.declared.Color.{Color}
 use Rattle.interface.specs.declared.call.Call.{Call}
+use Rattle.interface.specs.declared.screen.Screen.{Screen}
 use Rattle.interface.specs.Sinks.{Sink}
-use Rattle.interface.specs.Slots.{slot_page, slot_place}
-use Rattle.list_screen.specs.declared.screen.ListScreen.{ListScreen}
+use Rattle.interface.specs.Screens.{screen_of}
+use Rattle.list_screen.specs.declared.list.CallList.{CallList}
 
--- each state still saved keeps a place for its restore
 abbrev pub listed : List Call → (saved number : ℕ) → Color → Sink
-listed cs saved number colour = record {
-  calls = cs;
-  free = 512 - length cs - saved;
-  saved = saved;
-  number = number;
-  colour = colour;
-  image_at = slot_page;
-  place_at = slot_place;
-}
+listed cs = screen_of cs (512 - length cs)
 
-abbrev pub list_means : ListScreen → Sink
-list_means l = listed l.calls l.states.depth l.states.screen l.colour
+abbrev pub list_means : {S : _} → Screen CallList S → Sink
+list_means l = listed l.calls.list l.states.depth l.states.screen l.colour

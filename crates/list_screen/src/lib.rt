@@ -1,5 +1,5 @@
 // The screen that is a list of the calls it was sent.
 #![tactic(auto)]
 
-pub mod drawn;
+pub mod list;
 pub mod screen;

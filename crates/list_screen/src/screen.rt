@@ -1,20 +1,22 @@
-// The screen that is a list of at most 512 calls: its fields and their invariant.
-ghost use Rattle.std.specs.Prelude.{◌+◌, ◌≤◌, length};
-ghost use Rattle.list_screen.specs.declared.screen.TheConstants.{PLACES};
+// The screen that is a list of at most 512 calls.
+ghost use Rattle.std.specs.Prelude.{◌≡◌, [], IfOk};
+ghost use Rattle.list_screen.specs.Listed.{listed, list_means};
 
-use interface::call::Call;
-use interface::state::SavedStates;
-use lists::bounded::Bounded;
+use crate::list::CallList;
+use interface::screen::Screen;
+use interface::sink::DrawSink;
 use shapes::Color;
+use std::alloc::{AllocError, Global};
 
-// Calls at most.
-pub(crate) const PLACES: usize = 512;
+pub type ListScreen = Screen<CallList>;
 
-// Each state still saved keeps a place for its restore.
-#[derive(Drop)]
-pub struct ListScreen {
-    pub(crate) calls: Bounded<Call, PLACES>,
-    pub(crate) states: SavedStates,
-    pub(crate) colour: Color,
-    ghost within: { length calls + states.depth ≤ PLACES },
+impl CallList {
+    // A screen over a new list, with a number of its own, and a colour.
+    pub fn screen(heap: Global, number: u32, colour: Color) -> Result<ListScreen, AllocError>
+        ensures means { IfOk result (λ l. list_means l ≡ listed [] 0 number colour) }
+        ensures draws { (l : _) → ⟦<ListScreen as DrawSink>⟧.means l ≡ list_means l }
+    {
+        let calls = CallList::new(heap)?;
+        Ok(Screen::new(calls, number, colour))
+    }
 }

@@ -17,7 +17,7 @@ fn five_hundred_and_twelve_calls(rt: HostRuntime) -> Result<(), Fail> {
     assert_eq!(rt; pops(&mut screen, 600), 512);
     assert_eq!(rt; screen.free_places(), 0);
     assert!(rt; screen.set_tint(None) == Err(SinkFault::NoPlace));
-    assert_eq!(rt; screen.calls().len(), 512);
+    assert_eq!(rt; screen.calls().as_slice().len(), 512);
     Ok(())
 }
 

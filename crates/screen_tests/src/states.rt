@@ -52,6 +52,6 @@ fn out_of_order<S: GlyphRenderer>(screen: &mut S) -> Option<u8> {
 fn the_outer_state_first(rt: HostRuntime) -> Result<(), Fail> {
     let mut screen = screens::numbered(rt.alloc(), 1)?;
     assert_eq!(rt; out_of_order(&mut screen), Some(10));
-    assert_eq!(rt; screen.calls().len(), 4);
+    assert_eq!(rt; screen.calls().as_slice().len(), 4);
     Ok(())
 }

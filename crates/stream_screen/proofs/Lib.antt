@@ -1,5 +1,4 @@
 pub mod Bytes
 pub mod Back
 pub mod Streams
-pub mod Screens
 pub mod Cases

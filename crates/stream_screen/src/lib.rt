@@ -1,11 +1,10 @@
 // A screen that writes its calls as bytes into a lent buffer.
 #![tactic(auto)]
 
+pub mod call_bytes;
 mod encode;
-pub mod makes;
 mod numbers;
 mod records;
-pub mod renders;
 pub mod screen;
 mod values;
 pub mod worked;

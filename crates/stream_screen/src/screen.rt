@@ -1,22 +1,21 @@
-// A screen over a lent buffer: its fields, and what always holds of them.
-ghost use Rattle.std.specs.Prelude.{◌+◌, ◌*◌, ◌≤◌, length};
-ghost use Rattle.stream_screen.specs.Stream.{place};
-ghost use Rattle.stream_screen.specs.Reads.{Whole};
-ghost use Rattle.stream_screen.specs.Writes.{written};
+// The screen that writes its calls as bytes into a lent buffer.
+ghost use Rattle.std.specs.Prelude.{◌≡◌, length};
+ghost use Rattle.stream_screen.specs.Means.{stream_means, new_screen};
 
-use crate::writer::Writer;
-use interface::state::SavedStates;
+use crate::call_bytes::CallBytes;
+use interface::screen::Screen;
+use interface::sink::DrawSink;
 use shapes::Color;
 
-// The bytes of a place: no record is longer.
-pub(crate) const PLACE: usize = 52;
+pub type StreamScreen<'a> = Screen<CallBytes<'a>>;
 
-// Each saved state keeps room for its restore, so that a restore is never refused for want of room.
-#[derive(Drop)]
-pub struct StreamScreen<'a> {
-    pub(crate) writer: Writer<'a>,
-    pub(crate) states: SavedStates,
-    pub(crate) colour: Color,
-    ghost room: { writer.used + place * states.depth ≤ length writer.out.now },
-    ghost whole: { Whole (written writer) },
+impl<'a> CallBytes<'a> {
+    // A screen over a lent buffer, from its number and its colour.
+    pub fn screen(out: &'a mut [u8], number: u32, colour: Color) -> StreamScreen<'a>
+        ensures means { stream_means result ≡ new_screen (length out.old) number colour }
+        ensures draws { (s : _) → ⟦<StreamScreen<'a> as DrawSink>⟧.means s ≡ stream_means s }
+        ensures lent { result.calls.writer.out.ghost_name ≡ out.entry.ghost_name }
+    {
+        Screen::new(CallBytes::new(out), number, colour)
+    }
 }

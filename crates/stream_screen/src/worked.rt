@@ -3,7 +3,7 @@ ghost use Rattle.std.specs.Prelude.{◌≡◌, true};
 ghost use Rattle.stream_screen.specs.Laws.{ReadsBack, Short};
 ghost use Rattle.stream_screen.specs.Worked.{Worked};
 
-use crate::screen::StreamScreen;
+use crate::call_bytes::CallBytes;
 use interface::sink::{DrawSink, GlyphRenderer};
 use shapes::Color;
 
@@ -14,9 +14,9 @@ pub fn records_hold() -> bool
     ensures run { result ≡ true }
 {
     let mut out = [0; 156];
-    let mut screen = StreamScreen::new(&mut out, 7, Color::from_bits(0, 0, 0, 0));
+    let mut screen = CallBytes::screen(&mut out, 7, Color::from_bits(0, 0, 0, 0));
     let state = screen.save_state().unwrap();
     screen.pop_layer().unwrap();
     screen.restore_state(state).unwrap();
-    screen.bytes() == [0, 0, 12, 0, 0, 0, 10, 0, 0, 0, 13, 0].as_slice()
+    screen.calls().bytes() == [0, 0, 12, 0, 0, 0, 10, 0, 0, 0, 13, 0].as_slice()
 }

@@ -11,7 +11,7 @@ use std::alloc::{AllocError, Global};
 pub type ListScreen = Screen<CallList>;
 
 impl CallList {
-    // A screen over a new list, with a number of its own, and a colour.
+    // A screen over a new list, with a number of its own, and a colour. `draws`: of every such screen, what drawing does is said of `list_means`.
     pub fn screen(heap: Global, number: u32, colour: Color) -> Result<ListScreen, AllocError>
         ensures means { IfOk result (λ l. list_means l ≡ listed [] 0 number colour) }
         ensures draws { (l : _) → ⟦<ListScreen as DrawSink>⟧.means l ≡ list_means l }

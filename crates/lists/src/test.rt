@@ -4,6 +4,6 @@ ghost use Rattle.std.specs.Prelude.{◌≡◌, Bool};
 pub trait Test<T> {
     ghost accepts: { Self → T → Bool };
 
-    fn passes(&self, record: &T) -> bool
-        ensures { result ≡ accepts self.now record.now };
+    fn passes(&self, item: &T) -> bool
+        ensures { result ≡ accepts self.now item.now };
 }

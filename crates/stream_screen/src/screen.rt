@@ -10,7 +10,7 @@ use shapes::Color;
 pub type StreamScreen<'a> = Screen<CallBytes<'a>>;
 
 impl<'a> CallBytes<'a> {
-    // A screen over a lent buffer, from its number and its colour.
+    // A screen over a lent buffer, from its number and its colour. `draws`: of every such screen, what drawing does is said of `stream_means`.
     pub fn screen(out: &'a mut [u8], number: u32, colour: Color) -> StreamScreen<'a>
         ensures means { stream_means result ≡ new_screen (length out.old) number colour }
         ensures draws { (s : _) → ⟦<StreamScreen<'a> as DrawSink>⟧.means s ≡ stream_means s }

@@ -66,12 +66,12 @@ fn clear_all(recorders: &mut [AtlasCommandRecorder])
 }
 
 // Adds the commands if it is the page of that number.
-fn add_if(recorder: &mut AtlasCommandRecorder, page: u32, commands: [AtlasCommand; COMMANDS])
+fn add_if(recorder: &mut AtlasCommandRecorder, page: u32, commands: &[AtlasCommand; COMMANDS])
     requires { crowded recorder.old ≡ false }
-    ensures { recorder.new ≡ add_commands page commands recorder.old }
+    ensures { recorder.new ≡ add_commands page commands.now recorder.old }
 {
     if recorder.page() == page {
-        recorder.record(&commands).unwrap();
+        recorder.record(commands).unwrap();
     }
 }
 
@@ -81,7 +81,7 @@ fn add_to(recorders: &mut [AtlasCommandRecorder], page: u32, commands: [AtlasCom
     ensures { recorders.new ≡ map (add_commands page commands) recorders.old }
 {
     for recorder in recorders.iter_mut() {
-        add_if(recorder, page, commands);
+        add_if(recorder, page, &commands);
     }
 }
 

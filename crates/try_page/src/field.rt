@@ -53,6 +53,24 @@ impl fmt::Display for Kind {
 }
 
 impl Field {
+    const ALL: [Field; 15] = [
+        Field::Font,
+        Field::Index,
+        Field::Glyph,
+        Field::Size,
+        Field::At,
+        Field::Hinted,
+        Field::Color,
+        Field::Embolden,
+        Field::Axes,
+        Field::Path,
+        Field::Bounds,
+        Field::Scale,
+        Field::Pixmap,
+        Field::Area,
+        Field::Transform,
+    ];
+
     fn name(self) -> &'static str {
         match self {
             Field::Font => "font",
@@ -87,24 +105,8 @@ impl FromStr for Field {
     type Err = UnknownName;
 
     fn from_str(word: &str) -> Result<Field, UnknownName> {
-        match word {
-            "font" => Ok(Field::Font),
-            "index" => Ok(Field::Index),
-            "glyph" => Ok(Field::Glyph),
-            "size" => Ok(Field::Size),
-            "at" => Ok(Field::At),
-            "hinted" => Ok(Field::Hinted),
-            "color" => Ok(Field::Color),
-            "embolden" => Ok(Field::Embolden),
-            "axes" => Ok(Field::Axes),
-            "path" => Ok(Field::Path),
-            "box" => Ok(Field::Bounds),
-            "scale" => Ok(Field::Scale),
-            "pixmap" => Ok(Field::Pixmap),
-            "area" => Ok(Field::Area),
-            "transform" => Ok(Field::Transform),
-            _ => Err(UnknownName),
-        }
+        let found = Field::ALL.iter().find(|field| field.name() == word);
+        found.copied().ok_or(UnknownName)
     }
 }
 

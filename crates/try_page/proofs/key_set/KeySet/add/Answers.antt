@@ -13,11 +13,12 @@ returns c =
     let Same : Type 0 = GlyphCacheKey → GlyphCacheKey → Bool in
     let old = c.args.self.now.items in
     let clauses = c.in_ok-insert.ensures in
+    let order = clauses.keys ∙ (ap (λ (same : Same). insert_key same (keys old) c.args.key) alike ∙ put_last (keys old) c.args.key) in
     let added = clauses.added ∙ ap (λ (same : Same). not (contains same old c.args.key)) alike in (
       added,
       record {
         has = λ q. let At : Same → Type 0 = λ same. contains same c.insert.new.self q ≡ cond (same c.args.key q) true (contains same old q) in subst At alike (clauses.updates.0 q);
         count = counted _ _ _ _ added clauses.len;
-        order = clauses.keys ∙ (ap (λ (same : Same). insert_key same (keys old) c.args.key) alike ∙ put_last (keys old) c.args.key);
+        order = order;
       },
     )

@@ -1,10 +1,14 @@
 -- A page to which commands may be added: it keeps its number, and has places where no page is crowded. Assumes nothing.
-use Rattle.std.proofs.Common.{◌≡◌, ℕ, zero, suc, ◌<◌, Bool, true, false, cond, not, eqb, List, [], ◌∷◌, ◌++◌, map, length, get_or, take, drop, filter, refl, ap, ◌∙◌, arith, rules}
-use Rattle.std.proofs.lemmas.List.{places, length-map, length-take-le}
+use Rattle.std.proofs.Common.{◌≡◌, ℕ, zero, suc, ◌-◌, ◌<◌, Bool, true, false, cond, not, eqb, List, [], ◌∷◌, ◌++◌, map, length, get_or, take, drop, filter, sym, refl, ap, ◌∙◌, subst, arith, rules}
+use Rattle.std.proofs.lemmas.List.{places, length-map, length-take-le, length-append}
+use Rattle.std.proofs.lemmas.List.Elements.{All-map}
+use Rattle.std.proofs.lemmas.Bool.{ltb-false}
+use Rattle.std.specs.List.{All}
 use Rattle.shapes.specs.Answers.{none}
 use Rattle.interface.specs.declared.values.AtlasCommand.{AtlasCommand}
 use Rattle.pages.specs.Pages.{Page, with_more}
 use Rattle.atlas_pages.specs.AllPages.{add_commands, crowded, any_crowded}
+use Rattle.atlas_pages.specs.Sets.{Fits}
 use Rattle.atlas_pages.proofs.Changing.{changed_to}
 
 by_test : (b : Bool) (cs : List AtlasCommand) (p : Page) → (cond b (with_more p cs) p).number ≡ p.number
@@ -38,3 +42,13 @@ pub still_roomy : (f : Page → Page) (xs ys : List Page) (i : ℕ) (x : Page) �
 still_roomy f xs ys i x h inv e =
     let at : get_or ys i x ≡ get_or xs i x = ap (λ l. get_or l i x) inv ∙ here_unchanged f xs i x h in
     ap crowded at ∙ none_crowded xs i x h e
+
+-- three commands go onto a page that is not crowded
+with_three : (b : Bool) (cs : List AtlasCommand) (p : Page) → length cs ≡ 3 → crowded p ≡ false → Fits p → Fits (cond b (with_more p cs) p)
+with_three false cs p n e f = f
+with_three true cs p n e f = let l = ltb-false (120 - length p.commands) 3 e in let a = length-append p.commands cs in omega arith
+
+pub still_fit : (n : ℕ) (cs : List AtlasCommand) (xs ys : List Page) → length cs ≡ 3 → any_crowded xs ≡ false → All Fits xs → ys ≡ map (add_commands n cs) xs → All Fits ys
+still_fit n cs xs ys three e f is =
+    subst (All Fits) (sym is)
+    (All-map Fits (add_commands n cs) xs (λ k d l. with_three (eqb n (get_or xs k d).number) cs (get_or xs k d) three (none_crowded xs k d l e) (f k d l)))

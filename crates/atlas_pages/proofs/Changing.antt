@@ -1,10 +1,12 @@
 -- Every page changed in the same way, one after the other. Assumes nothing.
-use Rattle.std.proofs.Common.{◌≡◌, ℕ, ◌+◌, ◌<◌, ◌≤◌, List, [], ◌∷◌, ◌++◌, map, length, get_or, take, drop, set, sym, refl, ap, ◌∙◌, append-nil}
+use Rattle.std.proofs.Common.{◌≡◌, ℕ, ◌+◌, ◌<◌, ◌≤◌, List, [], ◌∷◌, ◌++◌, map, length, get_or, take, drop, set, sym, refl, ap, ◌∙◌, subst, append-nil, arith}
 use Rattle.std.proofs.lemmas.List.{length-append, take-append-drop, length-map, take_all, drop_all}
 use Rattle.std.proofs.lemmas.List.Edits.{map_over_more}
+use Rattle.std.proofs.lemmas.List.Elements.{All-map}
+use Rattle.std.specs.List.{All}
 use Rattle.pages.specs.Pages.{Page, emptied}
 use Rattle.atlas_pages.specs.AllPages.{blank}
-use Rattle.atlas_pages.specs.Sets.{numbers, page_numbers}
+use Rattle.atlas_pages.specs.Sets.{numbers, page_numbers, Fits}
 
 -- of the pages xs, the first i are changed by f
 module _ (f : Page → Page) (xs : List Page) where
@@ -39,3 +41,11 @@ emptied_blank (p ∷ ps) = ap (λ l. emptied p ∷ l) (emptied_blank ps)
 -- emptied pages are those of an unused atlas
 pub all_blank : (xs ys : List Page) → numbers xs ≡ page_numbers → ys ≡ map emptied xs → ys ≡ map blank page_numbers
 all_blank xs ys n e = e ∙ (emptied_blank xs ∙ ap (map blank) n)
+
+-- emptied pages hold no more than they may
+pub emptied_fit : (xs ys : List Page) → ys ≡ map emptied xs → All Fits ys
+emptied_fit xs ys e = subst (All Fits) (sym e) (All-map Fits emptied xs (λ k d l. omega arith))
+
+-- nor do those of an unused atlas
+pub blank_fit : (ns : List ℕ) → All Fits (map blank ns)
+blank_fit ns = All-map Fits blank ns (λ k d l. omega arith)

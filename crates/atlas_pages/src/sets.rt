@@ -1,12 +1,12 @@
 // What is done with all four pages. Only `new` asks for memory.
 ghost use Rattle.std.specs.Prelude.{◌≡◌, false, map, IfOk};
-ghost use Rattle.std.specs.List.{list_all, list_any};
+ghost use Rattle.std.specs.List.{list_all, list_any, All};
 ghost use Rattle.shapes.specs.Answers.{none, KeepsRefused};
 ghost use Rattle.pages.specs.Pages.{emptied, filled};
-ghost use Rattle.atlas_pages.specs.Sets.{numbers, page_numbers};
+ghost use Rattle.atlas_pages.specs.Sets.{numbers, page_numbers, Fits};
 ghost use Rattle.atlas_pages.specs.AllPages.{blank, crowded, any_crowded, add_commands, RecordedOn, Offers};
 
-use crate::set::AtlasPages;
+use crate::set::{AtlasPages, PAGES};
 use interface::fault::SinkFault;
 use interface::sink::DrawSink;
 use interface::values::AtlasCommand;
@@ -17,6 +17,13 @@ use std::array;
 
 // Commands that are recorded for a page at once.
 const COMMANDS: usize = 3;
+
+// A recorder for each page, with no command.
+fn blank_recorders(heap: Global) -> Result<[AtlasCommandRecorder; PAGES], AllocError>
+    ensures { IfOk result (λ ps. ps ≡ map blank page_numbers) }
+{
+    array::try_from_fn(|page| AtlasCommandRecorder::new(heap, page as u32))
+}
 
 // No command waits for any of these pages.
 fn all_idle(recorders: &[AtlasCommandRecorder]) -> bool
@@ -59,12 +66,12 @@ fn clear_all(recorders: &mut [AtlasCommandRecorder])
 }
 
 // Adds the commands if it is the page of that number.
-fn add_if(recorder: &mut AtlasCommandRecorder, page: u32, commands: [AtlasCommand; COMMANDS])
+fn add_if(recorder: &mut AtlasCommandRecorder, page: u32, commands: &[AtlasCommand; COMMANDS])
     requires { crowded recorder.old ≡ false }
-    ensures { recorder.new ≡ add_commands page commands recorder.old }
+    ensures { recorder.new ≡ add_commands page commands.now recorder.old }
 {
     if recorder.page() == page {
-        recorder.record(&commands).unwrap();
+        recorder.record(commands).unwrap();
     }
 }
 
@@ -74,7 +81,7 @@ fn add_to(recorders: &mut [AtlasCommandRecorder], page: u32, commands: [AtlasCom
     ensures { recorders.new ≡ map (add_commands page commands) recorders.old }
 {
     for recorder in recorders.iter_mut() {
-        add_if(recorder, page, commands);
+        add_if(recorder, page, &commands);
     }
 }
 
@@ -82,7 +89,7 @@ impl AtlasPages {
     pub fn new(heap: Global) -> Result<AtlasPages, AllocError>
         ensures { IfOk result (λ s. s ≡ map blank page_numbers) }
     {
-        let recorders = array::try_from_fn(|page| AtlasCommandRecorder::new(heap, page as u32))?;
+        let recorders = blank_recorders(heap)?;
         Ok(AtlasPages { recorders })
     }
 
@@ -97,6 +104,7 @@ impl AtlasPages {
     pub fn is_crowded(&self) -> bool
         ensures crowded { result ≡ any_crowded self.now }
         ensures numbered { numbers self.now ≡ page_numbers }
+        ensures fits { All Fits self.now }
     {
         one_crowded(&self.recorders)
     }

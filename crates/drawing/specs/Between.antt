@@ -1,9 +1,10 @@
--- The parts of a drawing: what is sent between a save and its restore. Assumes nothing; only private functions cite it.
+-- The parts of a drawing: the room that it asks for, and what is sent between a save and its restore. Assumes nothing; only private functions cite it.
+--     Roomy m r                     r says whether eight places are free on the screen m
 --     Steps m cs n                  the screen m takes the calls cs, none a save or a restore, one after the other, and becomes n
 --     Sends means ran cs            whatever runs by ran, from one state of a screen to another, takes the calls cs so
 --     picture_calls i p t area c    for an image i with the paint transform p: by the transform t, over the area, with tint c
 --     outline_calls o style t p     for an outline; bitmap_calls b t for a bitmap; plain_calls g style t p for either
-use Rattle.std.specs.Prelude.{◌≡◌, List, [], ◌∷◌, None, Ok, Option}
+use Rattle.std.specs.Prelude.{◌≡◌, ◌<◌, ◌≤◌, List, [], ◌∷◌, None, Ok, Err, Option, Result}
 use Rattle.shapes.specs.declared.Affine.{Affine}
 use Rattle.shapes.specs.declared.Rect.{Rect}
 use Rattle.shapes.specs.declared.Color.{Color}
@@ -17,10 +18,16 @@ use Rattle.interface.specs.declared.values.PaintImage.{PaintImage}
 use Rattle.interface.specs.declared.call.Call.{Call}
 use Rattle.interface.specs.declared.call.Call.TheVariants.{Command, SetPaintImage, SetTint}
 use Rattle.interface.specs.declared.call.Picture.TheVariants.{PixmapHandle}
+use Rattle.interface.specs.declared.fault.SinkFault.{SinkFault}
+use Rattle.interface.specs.Faults.{sink_number}
 use Rattle.interface.specs.Pictures.{pictured}
 use Rattle.interface.specs.Sinks.{Sink, Sent}
 use Rattle.drawing.specs.declared.style.Style.{Style}
 use Rattle.drawing.specs.Shown.{scaled, path_call}
+
+abbrev pub Roomy : Sink → Result (Unit {0}) SinkFault → Type 0
+Roomy m (Ok u) = 8 ≤ m.free
+Roomy m (Err f) = (m.free < 8) × (sink_number f ≡ 15)
 
 abbrev pub Steps : Sink → List Call → Sink → Type 0
 Steps m [] n = n ≡ m

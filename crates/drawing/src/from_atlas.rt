@@ -4,7 +4,7 @@ ghost use Rattle.shapes.specs.Answers.{KeepsRefused};
 ghost use Rattle.drawing.specs.Shown.{Shown, from_atlas};
 ghost use Rattle.drawing.specs.Between.{Steps, picture_calls};
 
-use crate::enclosed::enclosed;
+use crate::enclosed::{check_room, enclosed};
 use interface::fault::SinkFault;
 use interface::region::AtlasSlot;
 use interface::sink::GlyphRenderer;
@@ -35,17 +35,19 @@ impl FromAtlas {
         screen.set_tint(None).unwrap();
     }
 
-    // Shows the slot; refused where fewer than eight places are free, and then nothing is sent. The screen is asked about the slot before its
-    // state is saved.
+    // Shows the slot; refused where fewer than eight places are free, and then nothing is asked or sent. The screen is asked about the slot
+    // before its state is saved.
     pub fn show<S: GlyphRenderer>(self, screen: &mut S) -> Result<(), SinkFault>
         ensures shows { Shown (S.DrawSink.means screen.old) (from_atlas (S.DrawSink.means screen.old) self.slot self.transform self.area self.quality self.tint) result (S.DrawSink.means screen.new) }
         ensures keeps { KeepsRefused result screen.old screen.new }
     {
+        check_room(screen)?;
         let picture = PaintImage {
             source: screen.atlas_image_source(self.slot),
             quality: self.quality,
         };
         let place = screen.atlas_paint_transform(self.slot);
-        enclosed(screen, |screen| self.send_picture(screen, picture, place))
+        enclosed(screen, |screen| self.send_picture(screen, picture, place));
+        Ok(())
     }
 }

@@ -4,7 +4,7 @@ ghost use Rattle.shapes.specs.Answers.{KeepsRefused};
 ghost use Rattle.drawing.specs.Shown.{Shown, show_plain, scaled, path_call};
 ghost use Rattle.drawing.specs.Between.{Steps, outline_calls, bitmap_calls, plain_calls};
 
-use crate::enclosed::enclosed;
+use crate::enclosed::{check_room, enclosed};
 use crate::style::Style;
 use interface::fault::SinkFault;
 use interface::sink::GlyphRenderer;
@@ -83,6 +83,8 @@ impl Plain {
         ensures shows { Shown (S.DrawSink.means screen.old) (show_plain self.glyph self.style self.transform self.paint_transform) result (S.DrawSink.means screen.new) }
         ensures keeps { KeepsRefused result screen.old screen.new }
     {
-        enclosed(screen, |screen| self.send_glyph(screen))
+        check_room(screen)?;
+        enclosed(screen, |screen| self.send_glyph(screen));
+        Ok(())
     }
 }

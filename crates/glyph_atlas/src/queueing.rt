@@ -1,7 +1,8 @@
 // What a new picture needs: commands on its page, or an upload.
 ghost use Rattle.std.specs.Prelude.{◌≡◌, ◌≤◌, length};
+ghost use Rattle.std.specs.List.{All};
 ghost use Rattle.shapes.specs.Answers.{KeepsRefused};
-ghost use Rattle.atlas_pages.specs.Sets.{numbers, page_numbers};
+ghost use Rattle.atlas_pages.specs.Sets.{numbers, page_numbers, Fits};
 ghost use Rattle.atlas_pages.specs.AllPages.{any_crowded};
 ghost use Rattle.glyph_atlas.specs.Queues.{Commanded, Queued};
 
@@ -11,10 +12,11 @@ use crate::pending::PendingBitmapUpload;
 use interface::values::AtlasCommand;
 
 impl GlyphAtlas {
-    // Some page has fewer than 3 of its 120 places free. The pages are 0 to 3.
+    // Some page has fewer than 3 of its 120 places free. The pages are 0 to 3, and none holds more than 120 commands.
     pub fn is_crowded(&self) -> bool
         ensures crowded { result ≡ any_crowded self.now.pages }
         ensures numbered { numbers self.now.pages ≡ page_numbers }
+        ensures fits { All Fits self.now.pages }
     {
         self.pages.is_crowded()
     }

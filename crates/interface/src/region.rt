@@ -1,6 +1,6 @@
 // Where a glyph's picture lies.
 ghost use Rattle.std.specs.Prelude.{◌≡◌};
-ghost use Rattle.interface.specs.Slots.{slot_page, slot_place};
+ghost use Rattle.interface.specs.Slots.{identity, slot_page, slot_place};
 
 use crate::values::ImageSource;
 use shapes::Affine;
@@ -19,6 +19,13 @@ pub struct AtlasSlot {
     pub top: i16,
 }
 
+// Leaves every point where it is.
+fn identity() -> Affine
+    ensures { result ≡ identity }
+{
+    Affine::IDENTITY
+}
+
 impl AtlasSlot {
     // The page as an image.
     pub fn page_image(self) -> ImageSource
@@ -34,7 +41,7 @@ impl AtlasSlot {
         Affine {
             e: -(self.x as f64),
             f: -(self.y as f64),
-            ..Affine::IDENTITY
+            ..identity()
         }
     }
 }

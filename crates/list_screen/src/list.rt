@@ -1,5 +1,5 @@
 // A list of at most 512 calls, which a screen holds its calls in. Only `new` asks for memory.
-ghost use Rattle.std.specs.Prelude.{◌≡◌, ◌-◌, [], length, IfOk};
+ghost use Rattle.std.specs.Prelude.{◌≡◌, ◌-◌, ◌≤◌, [], length, IfOk};
 ghost use Rattle.list_screen.specs.declared.list.TheConstants.{PLACES};
 
 use interface::call::Call;
@@ -26,7 +26,8 @@ impl CallList {
 
     // The calls, oldest first.
     pub fn as_slice(&self) -> &[Call]
-        ensures { result.now ≡ ⟦<CallList as CallStore>⟧.holds self.now }
+        ensures value { result.now ≡ ⟦<CallList as CallStore>⟧.holds self.now }
+        ensures fits { length result.now ≤ 512 }
     {
         self.list.as_slice()
     }

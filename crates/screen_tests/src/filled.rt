@@ -5,9 +5,9 @@ use interface::sink::{DrawSink, GlyphRenderer};
 use pages::recorder::AtlasCommandRecorder;
 use std::test::Fail;
 
-// Pops until the sink refuses, at most so often, and says how many were taken.
+// Pops so often, and says how many were taken: a full sink goes on refusing.
 fn pops<S: DrawSink>(sink: &mut S, most: usize) -> usize {
-    (0..most).take_while(|_| sink.pop_layer().is_ok()).count()
+    (0..most).filter(|_| sink.pop_layer().is_ok()).count()
 }
 
 #[test]

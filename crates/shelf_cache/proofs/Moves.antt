@@ -1,14 +1,30 @@
 -- The spots after one of them left: each other is where it was or one place further down, and it is the last.
-use Rattle.std.proofs.Common.{◌≡◌, ℕ, zero, suc, ◌+◌, ◌-◌, ◌<◌, ◌≤◌, Bool, cond, ltb, List, [], ◌∷◌, length, sym, ap, ◌∙◌, subst, ⊎_elim, arith}
-use Rattle.std.proofs.lemmas.List.{get_or_append_left, get_or_at}
+use Rattle.std.proofs.Common.{◌≡◌, ℕ, zero, suc, ◌+◌, ◌-◌, ◌<◌, ◌≤◌, Bool, cond, ltb, List, [], ◌∷◌, ◌++◌, length, drop, set, sym, ap, ◌∙◌, subst, ⊎_elim, arith}
+use Rattle.std.proofs.lemmas.List.{get_or_append_left, get_or_at, set-append_right, length-append, drop_more, drop_all}
 use Rattle.std.proofs.lemmas.List.Edits.{length-remove, get_or-remove_below, get_or-remove_above}
 use Rattle.std.proofs.lemmas.Bool.{cases_eq, cases_lt}
 use Rattle.std.proofs.lemmas.Bool.Decides.{nat_tests}
 use Rattle.std.specs.List.{remove}
+use Rattle.lists.specs.Lists.{removed, closed_up}
 use Rattle.shelf_cache.specs.declared.shelf.Spot.{Spot}
 use Rattle.shelf_cache.specs.Rows.{no_spot, spot_at, count_below}
 use Rattle.shelf_cache.specs.Places.{left_of}
 use Rattle.shelf_cache.proofs.Counts.{count_same}
+
+-- the table closed up after k, with what was there put last
+pub closed_last : (xs ws : List Spot) (k : ℕ) → k < length xs → ws ≡ closed_up xs k → set ws (length ws - 1) (spot_at xs k) ≡ left_of xs k
+closed_last xs ws k l e =
+    let n : ℕ = length xs - 1 in
+    let x : Spot = spot_at xs k in
+    let m : length (removed xs k) ≡ n = let r = length-remove xs k l in omega arith in
+    let d : drop n xs ≡ spot_at xs n ∷ [] = drop_more xs n no_spot (omega arith) ∙ ap (λ ys. spot_at xs n ∷ ys) (drop_all (n + 1) xs (omega arith)) in
+    let closed : ws ≡ removed xs k ++ spot_at xs n ∷ [] = e ∙ ap (λ ys. removed xs k ++ ys) (ap (λ j. drop j xs) m ∙ d) in
+    let long : length ws - 1 ≡ n = let a = ap length closed ∙ length-append (removed xs k) (spot_at xs n ∷ []) in omega arith in
+    let z : n - n ≡ 0 = omega arith in
+    ap (λ ys. set ys (length ws - 1) x) closed
+    ∙ (ap (λ j. set (removed xs k ++ spot_at xs n ∷ []) j x) long
+    ∙ (set-append_right (removed xs k) (spot_at xs n ∷ []) n n x m (omega arith)
+    ∙ ap (λ j. removed xs k ++ set (spot_at xs n ∷ []) j x) z))
 
 -- where the spot now at j was
 abbrev pub was : ℕ → ℕ → ℕ

@@ -49,7 +49,7 @@ module _ (g : Shelves) (w h : ℕ) (w₁ : w ≤ g.width) where
 
   ready_new : (s : ℕ) → opening g h s ≡ true → Ready g w h (new_place g.shelves h s)
   ready_new s t =
-      let o = opens_is g h s t in
+      let o = opens_is g.count g.height h g.shelves g.standing s t in
       let next = o.next in
       -- no image is on a shelf that does not stand yet
       let none : (j : ℕ) → j < g.live → (spot_at g.spots j).shelf ≡ s → ⊥ = λ j l e. let T : ℕ → Type 0 = There g.standing in let q : There g.standing s = subst T e (g.stood j l) in omega arith in

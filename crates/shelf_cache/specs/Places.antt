@@ -70,10 +70,10 @@ abbrev pub opening : Shelves → ℕ → ℕ → Bool
 opening g h = opens_at g.count g.height h g.shelves g.standing
 
 -- the first shelf that takes it
-pub record FirstTaking (g : Shelves) (w h : ℕ) (p : Place) : Type 0 where
-  pub is : p ≡ old_place g.shelves p.at
-  pub takes_it : taking g w h p.at ≡ true
-  pub none_before : (s : ℕ) → s < p.at → taking g w h s ≡ false
+pub record FirstTaking (width w h : ℕ) (shelves : List Shelf) (standing : List ℕ) (p : Place) : Type 0 where
+  pub is : p ≡ old_place shelves p.at
+  pub takes_it : takes_at width w h shelves standing p.at ≡ true
+  pub none_before : (s : ℕ) → s < p.at → takes_at width w h shelves standing s ≡ false
 
 -- where the last of n shelves of a page ends
 abbrev pub end_of_last : List Shelf → ℕ → ℕ → ℕ
@@ -81,30 +81,33 @@ end_of_last shelves page zero = 0
 end_of_last shelves page (suc k) = (shelf_at shelves (16 * page + k)).top + (shelf_at shelves (16 * page + k)).height
 
 -- the page has n shelves, under 16, and that height is left below the last
-pub record RoomOn (g : Shelves) (h page n : ℕ) : Type 0 where
-  pub there : page < g.count
-  pub has : on_page g.standing page ≡ n
+pub record RoomOn (count height h : ℕ) (shelves : List Shelf) (standing : List ℕ) (page n : ℕ) : Type 0 where
+  pub there : page < count
+  pub has : on_page standing page ≡ n
   pub under : n < 16
-  pub left : end_of_last g.shelves page n + h ≤ g.height
+  pub left : end_of_last shelves page n + h ≤ height
 
 -- the place is below the last shelf of the first page with room
-pub record FirstPage (g : Shelves) (h s : ℕ) : Type 0 where
-  pub room : RoomOn g h (s / 16) (s % 16)
-  pub below : end_above g.shelves s ≡ end_of_last g.shelves (s / 16) (s % 16)
-  pub none_earlier : (q n : ℕ) → q < s / 16 → RoomOn g h q n → ⊥
+pub record FirstPage (count height h : ℕ) (shelves : List Shelf) (standing : List ℕ) (s : ℕ) : Type 0 where
+  pub room : RoomOn count height h shelves standing (s / 16) (s % 16)
+  pub below : end_above shelves s ≡ end_of_last shelves (s / 16) (s % 16)
+  pub none_earlier : (q n : ℕ) → q < s / 16 → RoomOn count height h shelves standing q n → ⊥
 
 -- no shelf takes it, and this is a new one on the first page with room
-pub record FirstOpened (g : Shelves) (w h : ℕ) (p : Place) : Type 0 where
-  pub no_shelf_takes : (s : ℕ) → s < 64 → taking g w h s ≡ false
-  pub is : p ≡ new_place g.shelves h p.at
-  pub opens : opening g h p.at ≡ true
-  pub none_before : (s : ℕ) → s < p.at → opening g h s ≡ false
-  pub page : FirstPage g h p.at
+pub record FirstOpened (width height count w h : ℕ) (shelves : List Shelf) (standing : List ℕ) (p : Place) : Type 0 where
+  pub no_shelf_takes : (s : ℕ) → s < 64 → takes_at width w h shelves standing s ≡ false
+  pub is : p ≡ new_place shelves h p.at
+  pub opens : opens_at count height h shelves standing p.at ≡ true
+  pub none_before : (s : ℕ) → s < p.at → opens_at count height h shelves standing s ≡ false
+  pub page : FirstPage count height h shelves standing p.at
 
-pub record FitIn (g : Shelves) (w h : ℕ) (p : Place) : Type 0 where
-  pub admitted : admits g.live g.width g.height w h ≡ true
+pub record Fit (width height count : ℕ) (shelves : List Shelf) (standing : List ℕ) (live w h : ℕ) (p : Place) : Type 0 where
+  pub admitted : admits live width height w h ≡ true
   pub there : p.at < 64
-  pub chosen : FirstTaking g w h p ⊎ FirstOpened g w h p
+  pub chosen : FirstTaking width w h shelves standing p ⊎ FirstOpened width height count w h shelves standing p
+
+abbrev pub FitIn : Shelves → ℕ → ℕ → Place → Type 0
+FitIn g w h p = Fit g.width g.height g.count g.shelves g.standing g.live w h p
 
 abbrev pub image_of : Spot → Image
 image_of a = record { id = a.id; page = a.shelf / 16; x = a.x; y = a.y; w = a.w; h = a.h }

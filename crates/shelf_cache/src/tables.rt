@@ -5,6 +5,7 @@ ghost use Rattle.shelf_cache.specs.Places.{left_of, Numbered};
 
 use crate::shelf::{Shelf, Spot};
 use crate::shelves::{MOST_IMAGES, PAGE_PLACES, PLACES};
+use lists::close::close_up;
 use std::array;
 
 // No image, and the ids 0 to 255 free.
@@ -26,7 +27,10 @@ pub(crate) fn retire(spots: &mut [Spot], k: usize)
     requires { k < length spots.old }
     ensures { spots.new ≡ left_of spots.old k }
 {
-    spots[k..].rotate_left(1);
+    let gone = spots[k];
+    close_up(spots, k);
+    let last = spots.len() - 1;
+    spots[last] = gone;
 }
 
 // How many of the n shelves of the page are left, once the empty lowest ones are gone.

@@ -1,8 +1,9 @@
 -- One write after another, a list of values written one by one, and bytes written over.
-use Rattle.std.proofs.Common.{◌≡◌, ℕ, ◌+◌, ◌<◌, ◌≤◌, List, [], ◌++◌, length, get_or, take, drop, flat_map, sym, ap, ◌∙◌, subst, append_assoc, arith, length-append, take-append-drop}
-use Rattle.std.proofs.lemmas.List.{take_more, take_all, take_at, drop_at, flat_map_more, length-take-le}
+use Rattle.std.proofs.Common.{◌≡◌, ℕ, ◌+◌, ◌<◌, ◌≤◌, List, [], ◌++◌, length, get_or, take, drop, flat_map, sym, refl, ap, ◌∙◌, subst, append_assoc, arith, length-append, take-append-drop}
+use Rattle.std.proofs.lemmas.List.{take_more, take_all, take_at, drop_at, flat_map_more, length-take-le, length-drop}
 use Rattle.std.proofs.lemmas.List.Folds.{length-flat_map-take}
-use borrow.Rule.Slice.PartMut.{put_mid}
+use Rattle.std.proofs.lemmas.Slice.{take-put_mid}
+use borrow.Rule.Slice.PartMut.{put_mid, same_len_mid}
 use Rattle.stream_screen.specs.Writes.{WroteIn}
 
 pub wrote_both : {xs ys o p q : List ℕ} {i j k : ℕ} → WroteIn xs o i p j → WroteIn ys p j q k → WroteIn (xs ++ ys) o i q k
@@ -11,6 +12,17 @@ wrote_both {xs = xs} {ys = ys} {o = o} {i = i} x y = record {
   more = simp length-append (omega arith);
   long = y.long ∙ x.long;
 }
+
+-- bytes over the next ones of the buffer
+pub wrote_at : (xs ys : List ℕ) (k : ℕ) {o : List ℕ} {u : ℕ} → ys ≡ xs → k ≡ length xs → u + length xs ≤ length o → WroteIn xs o u (put_mid u k o ys) (u + length xs)
+wrote_at xs ys k {o = o} {u = u} e n room =
+    let same : length ys ≡ length xs = ap length e in
+    let rest = length-drop u o in
+    record {
+      adds = take-put_mid u k o ys (u + length xs) (omega arith) (omega arith) ∙ ap (λ l. take u o ++ l) e;
+      more = refl;
+      long = same_len_mid u k o ys (same ∙ (sym n ∙ sym (length-take-le k (drop u o) (omega arith))));
+    }
 
 -- the value at i, after those before it
 module _ {X : Type 0} (bytes : X → List ℕ) (xs : List X) (i : ℕ) where

@@ -9,7 +9,7 @@ impl Encode for u16 {
     ghost bytes = { bytes_of 2 };
 
     fn encode(self, writer: &mut Writer) {
-        self.to_le_bytes().encode(writer);
+        writer.put(&self.to_le_bytes());
     }
 }
 
@@ -17,7 +17,7 @@ impl Encode for u32 {
     ghost bytes = { bytes_of 4 };
 
     fn encode(self, writer: &mut Writer) {
-        self.to_le_bytes().encode(writer);
+        writer.put(&self.to_le_bytes());
     }
 }
 
@@ -25,7 +25,7 @@ impl Encode for f32 {
     ghost bytes = { f32_bytes };
 
     fn encode(self, writer: &mut Writer) {
-        f32_to_bits_with_nan(self).to_le_bytes().encode(writer);
+        writer.put(&f32_to_bits_with_nan(self).to_le_bytes());
     }
 }
 
@@ -33,6 +33,6 @@ impl Encode for f64 {
     ghost bytes = { f64_bytes };
 
     fn encode(self, writer: &mut Writer) {
-        f64_to_bits_with_nan(self).to_le_bytes().encode(writer);
+        writer.put(&f64_to_bits_with_nan(self).to_le_bytes());
     }
 }

@@ -1,12 +1,12 @@
 -- What a summary becomes with one more verdict. Counts stop at 2 ^ 64 - 1. Assumes nothing.
 --     slot_pixels m    the pixels of a picture's slot: one more on every side
 --     Added s v t      t is the summary s with the verdict v added
-use Rattle.std.specs.Prelude.{◌≡◌, ℕ, ◌+◌, ◌-◌, ◌*◌, ◌^◌, min, cond, Ok, Err, Result}
-use Rattle.std.specs.HashSet.{HashSet, IsEmpty, IsUnchanged}
+use Rattle.std.specs.Prelude.{◌≡◌, ℕ, ◌+◌, ◌-◌, ◌*◌, ◌^◌, min, cond, List, Ok, Err, Result}
+use Rattle.indexmap.specs.IndexSet.{IndexSet, keys, IsEmpty, IsUnchanged}
 use Rattle.glyph_key.specs.declared.key.GlyphCacheKey.{GlyphCacheKey}
 use Rattle.glyph_key.specs.declared.fault.KeyFault.TheVariants.{TooManyAxes, NotANumber}
 use Rattle.raster.specs.declared.glyph.RasterMetrics.{RasterMetrics}
-use Rattle.try_page.specs.Once.{known, IsWith}
+use Rattle.try_page.specs.Once.{known, with_key, IsWith}
 use Rattle.try_page.specs.declared.verdict.Verdict.{Verdict}
 use Rattle.try_page.specs.declared.verdict.Verdict.TheVariants.{Atlas, Plain}
 use Rattle.try_page.specs.declared.verdict.LetterFault.{LetterFault}
@@ -31,20 +31,32 @@ plain_after n (Ok (Atlas k m)) = n
 plain_after n (Ok (Plain k)) = more n 1
 plain_after n (Err e) = n
 
--- the keys of letters that are not refused, before and after
-abbrev pub KeysAfter : {S : Type 0} → HashSet GlyphCacheKey S → Result Verdict LetterFault → HashSet GlyphCacheKey S → Type 0
+-- the keys of letters that are not refused, in the order in which they came
+abbrev pub keys_after : List GlyphCacheKey → Result Verdict LetterFault → List GlyphCacheKey
+keys_after ks (Ok (Atlas k m)) = with_key ks k
+keys_after ks (Ok (Plain k)) = with_key ks k
+keys_after ks (Err e) = ks
+
+-- the keys that have a slot
+abbrev pub slots_after : List GlyphCacheKey → Result Verdict LetterFault → List GlyphCacheKey
+slots_after ks (Ok (Atlas k m)) = with_key ks k
+slots_after ks (Ok (Plain k)) = ks
+slots_after ks (Err e) = ks
+
+-- the sets of both, before and after
+abbrev pub KeysAfter : {S : Type 0} → IndexSet GlyphCacheKey S → Result Verdict LetterFault → IndexSet GlyphCacheKey S → Type 0
 KeysAfter s (Ok (Atlas k m)) t = IsWith s k t
 KeysAfter s (Ok (Plain k)) t = IsWith s k t
 KeysAfter s (Err e) t = IsUnchanged s t
 
 -- the keys that have a slot
-abbrev pub SlotsAfter : {S : Type 0} → HashSet GlyphCacheKey S → Result Verdict LetterFault → HashSet GlyphCacheKey S → Type 0
+abbrev pub SlotsAfter : {S : Type 0} → IndexSet GlyphCacheKey S → Result Verdict LetterFault → IndexSet GlyphCacheKey S → Type 0
 SlotsAfter s (Ok (Atlas k m)) t = IsWith s k t
 SlotsAfter s (Ok (Plain k)) t = IsUnchanged s t
 SlotsAfter s (Err e) t = IsUnchanged s t
 
 -- a slot is counted for the first letter that has it
-abbrev pub pixels_after : {S : Type 0} → ℕ → HashSet GlyphCacheKey S → Result Verdict LetterFault → ℕ
+abbrev pub pixels_after : {S : Type 0} → ℕ → IndexSet GlyphCacheKey S → Result Verdict LetterFault → ℕ
 pixels_after n s (Ok (Atlas k m)) = cond (known s k) n (more n (slot_pixels m))
 pixels_after n s (Ok (Plain k)) = n
 pixels_after n s (Err e) = n
@@ -61,6 +73,8 @@ pub record Added (s : Summary) (v : Result Verdict LetterFault) (t : Summary) : 
   pub of_refusals : t.refusals ≡ refusals_after s.refusals v
   pub of_keys : KeysAfter s.keys.items v t.keys.items
   pub of_pictures : SlotsAfter s.pictures.items v t.pictures.items
+  pub key_order : keys t.keys.items ≡ keys_after (keys s.keys.items) v
+  pub picture_order : keys t.pictures.items ≡ slots_after (keys s.pictures.items) v
 
 -- nothing has been added
 pub record Blank (t : Summary) : Type 0 where

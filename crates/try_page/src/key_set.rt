@@ -1,16 +1,16 @@
-// Keys, each once.
+// Keys, each once, in the order in which they came.
 ghost use Rattle.std.specs.Prelude.{◌≡◌, not, IfOk};
-ghost use Rattle.std.specs.HashSet.{IsEmpty, IsUnique, hash_set_len};
+ghost use Rattle.indexmap.specs.IndexSet.{IsEmpty, IsUnique, index_set_len};
 ghost use Rattle.glyph_key.specs.Keys.{same_key};
 ghost use Rattle.try_page.specs.Once.{known, IsWith};
 
 use glyph_key::key::GlyphCacheKey;
+use indexmap::IndexSet;
 use std::alloc::{AllocError, Global};
-use std::collections::HashSet;
 
 #[derive(Drop)]
 pub struct KeySet {
-    items: HashSet<GlyphCacheKey>,
+    items: IndexSet<GlyphCacheKey>,
 }
 
 impl KeySet {
@@ -18,13 +18,13 @@ impl KeySet {
         ensures { IsEmpty result.items }
     {
         KeySet {
-            items: HashSet::new(heap),
+            items: IndexSet::new(heap),
         }
     }
 
     // No two keys of the set are the same, so that this is how many different ones came.
     pub fn len(&self) -> usize
-        ensures count { result ≡ hash_set_len self.now.items }
+        ensures count { result ≡ index_set_len self.now.items }
         ensures once { IsUnique same_key self.now.items }
     {
         self.items.len()
@@ -36,7 +36,7 @@ impl KeySet {
         self.items.contains(key)
     }
 
-    // Whether the key is new, and then it is added.
+    // Whether the key is new, and then it is added, after those that came before.
     pub fn add(&mut self, key: GlyphCacheKey) -> Result<bool, AllocError>
         ensures { IfOk result (λ new. (new ≡ not (known self.old.items key)) × IsWith self.old.items key self.new.items) }
     {

@@ -1,8 +1,6 @@
--- The end of the table, rotated by one.
-use Rattle.std.proofs.Common.{arith}
-use Rattle.std.proofs.lemmas.Slice.{put_mid-rotated}
-use Rattle.shelf_cache.specs.Rows.{no_spot}
+-- The table closed up, with the spot that left at its end.
+use Rattle.shelf_cache.proofs.Moves.{closed_last}
 use Rattle.shelf_cache.proofs.tables.retire.Goals as goal
 
 pub returns : goal.returns
-returns c = put_mid-rotated _ _ _ _ no_spot c.requires (omega (arith, c.requires)) c.rotate_left.ensures.after
+returns c = closed_last _ _ _ c.requires c.close_up.ensures

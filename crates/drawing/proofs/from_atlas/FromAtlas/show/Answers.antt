@@ -14,5 +14,5 @@ pub returns-clause-shows : goal.returns-clause-shows
 returns-clause-shows g c =
     let d = c.args.self in
     let image : PaintImage = record { source = c.atlas_image_source.result; quality = d.quality } in
-    let shown = c.enclosed.ensures.shows (picture_calls image c.atlas_paint_transform-place.result d.transform d.area d.tint) (λ m n w. search rules) in
-    simp (c.atlas_image_source.ensures, c.atlas_paint_transform-place.ensures) at shown
+    let shown = c.enclosed.ensures (picture_calls image c.atlas_paint_transform-place.result d.transform d.area d.tint) (λ m n w. search rules) in
+    (search rules, simp (c.atlas_image_source.ensures, c.atlas_paint_transform-place.ensures) at shown)

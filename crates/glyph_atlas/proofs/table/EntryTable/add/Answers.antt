@@ -1,5 +1,5 @@
 -- The table with one entry more is as every table is.
-use Rattle.std.proofs.Common.{◌≡◌, cond, [], ◌∷◌, ◌++◌, length, filter, sym, ap, ◌∙◌}
+use Rattle.std.proofs.Common.{cond, [], ◌∷◌, ◌++◌, length, filter, sym, ap, ◌∙◌}
 use Rattle.std.proofs.lemmas.Bool.{lt-ltb}
 use Rattle.lists.specs.Bounds.{appended}
 use Rattle.glyph_key.specs.Once.{repeats}

@@ -8,7 +8,7 @@ use Rattle.shelf_cache.proofs.shelves.Shelves.new_place.Goals as goal
 pub end_above-requires-clause-next : goal.end_above-requires-clause-next
 end_above-requires-clause-next c =
     let g = c.args.self.now in
-    let o = opens_is g c.args.height c.in_ok-at.at c.in_ok-at.ensures.1 in
+    let o = opens_is g.count g.height c.args.height g.shelves g.standing c.in_ok-at.at c.in_ok-at.ensures.1 in
     omega (arith, o.next)
 
 pub returns-in_err-at : goal.returns-in_err-at

@@ -1,5 +1,5 @@
 use Rattle.std.proofs.Common.{Bool, ap, ◌∙◌}
-use Rattle.std.specs.HashSet.{contains}
+use Rattle.indexmap.specs.IndexSet.{contains}
 use Rattle.glyph_key.specs.declared.key.GlyphCacheKey.{GlyphCacheKey}
 use Rattle.try_page.proofs.Keys.{alike}
 use Rattle.try_page.proofs.key_set.KeySet.has.Goals as goal

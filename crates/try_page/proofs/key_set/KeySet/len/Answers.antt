@@ -1,5 +1,5 @@
 use Rattle.std.proofs.Common.{Bool, subst}
-use Rattle.std.specs.HashSet.{IsUnique}
+use Rattle.indexmap.specs.IndexSet.{IsUnique}
 use Rattle.glyph_key.specs.declared.key.GlyphCacheKey.{GlyphCacheKey}
 use Rattle.try_page.proofs.Keys.{alike}
 use Rattle.try_page.proofs.key_set.KeySet.len.Goals as goal
